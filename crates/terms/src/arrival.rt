@@ -1,0 +1,29 @@
+// Sharing in arrival order.
+ghost use Rattle.terms.specs.Arrival.{in-arrival-order};
+use crate::fault::ShareFault;
+use crate::sharing::SharingRule;
+use crate::sharing::check;
+
+// Each demand in turn gets the lesser of itself and what is left.
+pub enum InArrivalOrder {}
+
+pub impl SharingRule for InArrivalOrder as ArrivalRule {
+    ghost meaning = { in-arrival-order };
+
+    ghost code = { 2 };
+
+    fn code() -> u8 {
+        2
+    }
+
+    fn share(balance: u32, demands: &[u32], shares: &mut [u32]) -> Result<(), ShareFault> {
+        check(balance, demands, shares.len())?;
+        let mut left = balance;
+        for (i, d) in demands.iter().enumerate() {
+            let given = (*d).min(left);
+            shares[i] = given;
+            left -= given;
+        }
+        Ok(())
+    }
+}
