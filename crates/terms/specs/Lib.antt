@@ -1,4 +1,5 @@
 pub mod Faults
+pub mod Tests
 pub mod Grounds
 pub mod Quotes
 pub mod Rates
@@ -8,3 +9,4 @@ pub mod Arrival
 pub mod ProRata
 pub mod Dealing
 pub mod Divisions
+pub mod Notices

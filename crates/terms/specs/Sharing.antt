@@ -10,6 +10,7 @@ use Rattle.std.specs.declared.option.Option.{Option}
 use Rattle.std.specs.declared.option.Option.the-variants.{Some, None}
 use Rattle.terms.specs.declared.fault.ShareFault.{ShareFault}
 use Rattle.terms.specs.declared.fault.ShareFault.the-variants.{Lots, ShortTable, ManyDemands}
+use Rattle.terms.specs.Tests.{between, every}
 use Rattle.terms.specs.Grounds.{Ground, when}
 
 -- the most lots that a demand or a balance may have
@@ -22,12 +23,11 @@ most-demands = 4_096
 
 -- a demand is from 1 to the most lots
 abbrev pub demand-fits : ℕ → Bool
-demand-fits d = leb 1 d && leb d most-lots
+demand-fits d = between 1 d most-lots
 
 -- each demand is
 abbrev pub demands-fit : List ℕ → Bool
-demands-fit [] = true
-demands-fit (d ∷ ds) = demand-fits d && demands-fit ds
+demands-fit = every demand-fits
 
 -- the demands fit, and the balance is at most their sum and at most the most lots
 abbrev pub lots-fit : List ℕ → ℕ → Bool

@@ -1,4 +1,6 @@
 // Sharing in arrival order.
+ghost use mathlib.Core.Path.{_≡_};
+ghost use Prim.Native.Nat.{min, _-_};
 ghost use Rattle.terms.specs.Arrival.{in-arrival-order};
 use crate::fault::ShareFault;
 use crate::sharing::SharingRule;
@@ -20,10 +22,18 @@ pub impl SharingRule for InArrivalOrder as ArrivalRule {
         check(balance, demands, shares.len())?;
         let mut left = balance;
         for (i, d) in demands.iter().enumerate() {
-            let given = (*d).min(left);
+            let (given, rest) = serve(*d, left);
             shares[i] = given;
-            left -= given;
+            left = rest;
         }
         Ok(())
     }
+}
+
+// What a demand gets of what is left, and what is left after it.
+fn serve(demand: u32, left: u32) -> (u32, u32)
+    ensures { λ r. ⌜ r ≡ (min demand left, left - min demand left) ⌝ }
+{
+    let given = demand.min(left);
+    (given, left - given)
 }

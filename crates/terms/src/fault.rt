@@ -1,6 +1,6 @@
-// Why a number is no quote, and why demands are not shared; each refusal has a number.
+// Why a number is no quote, why demands are not shared, and why a notice is not taken; each refusal has a number.
 ghost use mathlib.Core.Path.{_≡_};
-ghost use Rattle.terms.specs.Faults.{quote-fault-number, share-fault-number};
+ghost use Rattle.terms.specs.Faults.{quote-fault-number, share-fault-number, notice-fault-number};
 
 // Why a number is not read as a quote.
 #[derive(Clone, Copy, PartialEq, Eq, Debug)]
@@ -40,6 +40,24 @@ impl ShareFault {
             ShareFault::Lots => 10,
             ShareFault::ShortTable => 16,
             ShareFault::ManyDemands => 18,
+        }
+    }
+}
+
+// Why a notice is not taken.
+#[derive(Clone, Copy, PartialEq, Eq, Debug)]
+pub enum NoticeFault {
+    // It is against the rules of a notice.
+    AgainstRules,
+}
+
+impl NoticeFault {
+    // The number of the refusal.
+    pub fn number(self) -> u8
+        ensures { λ r. ⌜ r ≡ notice-fault-number self ⌝ }
+    {
+        match self {
+            NoticeFault::AgainstRules => 17,
         }
     }
 }

@@ -1,4 +1,4 @@
-// The terms of an auction: kinds of quote and sharing rules.
+// The terms of an auction: kinds of quote, sharing rules, and the notice.
 pub mod fault;
 pub mod quote;
 pub mod rate;
@@ -9,3 +9,6 @@ pub mod sharing;
 pub mod arrival;
 pub mod pro_rata;
 pub mod divisions;
+pub mod notice;
+pub mod checked;
+pub mod check;
