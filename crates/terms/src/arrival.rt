@@ -7,6 +7,7 @@ use crate::sharing::SharingRule;
 use crate::sharing::check;
 
 // Each demand in turn gets the lesser of itself and what is left.
+#[derive(Drop)]
 pub enum InArrivalOrder {}
 
 pub impl SharingRule for InArrivalOrder as ArrivalRule {

@@ -35,7 +35,10 @@ impl CheckedNotice {
 }
 
 // Checks a notice for a kind of quote and a sharing rule. The place then holds it, without its codes; a refusal leaves the place as it was.
-pub fn check_notice<Q: Quote, R: SharingRule>(fields: &NoticeFields, place: &mut CheckedNotice) -> Result<(), NoticeFault>
+pub fn check_notice<Q: Quote, R: SharingRule>(
+    fields: &NoticeFields,
+    place: &mut CheckedNotice,
+) -> Result<(), NoticeFault>
     ensures refused { λ r. ⌜ refused r ≡ first (notice-grounds (Q·Quote .code) (R·SharingRule .code) (now (fields .entry))) ⌝ }
     ensures place { λ r. ⌜ now (place .exit) .notice ≡ noted (refused r) (now (fields .entry) .notice) (now (place .entry) .notice) ⌝ }
 {

@@ -10,8 +10,7 @@ use crate::sharing::SharingRule;
 
 pub fn divisions_come_out()
     ensures { λ _. ⌜ Worked-divisions ⌝ }
-{
-}
+{}
 
 pub fn proportional() -> [u32; 3]
     ensures { λ r. ⌜ r ≡ 24 ∷ 15 ∷ 21 ∷ [] ⌝ }

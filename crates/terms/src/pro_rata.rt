@@ -18,6 +18,7 @@ use crate::sharing::check;
 
 // Each demand gets its part of the balance, rounded down; the remainder goes to the smallest first share first, as far as its demand
 // allows, and equal ones are served by arrival.
+#[derive(Drop)]
 pub enum ProRata {}
 
 pub impl SharingRule for ProRata as ProRataRule {
@@ -54,8 +55,7 @@ impl ProRata {
     // No share is below its first share; and whoever got more than its first share, everyone served before it got its whole demand.
     pub fn serves_in_order()
         ensures { λ _. ⌜ Served-in-order ⌝ }
-    {
-    }
+    {}
 }
 
 // Fills the front of the table with the shares.
@@ -186,7 +186,11 @@ fn extra(start: u32, demand: u32, bound: u32, left: u64) -> u32
     requires { ⌜ start ≤ demand ⌝ }
     ensures { λ r. ⌜ r ≡ cond (eqb start bound) (min (demand - start) left) 0 ⌝ }
 {
-    if start == bound { ((demand - start) as u64).min(left) as u32 } else { 0 }
+    if start == bound {
+        ((demand - start) as u64).min(left) as u32
+    } else {
+        0
+    }
 }
 
 // The share of a demand: all of it below the threshold.

@@ -22,6 +22,6 @@ returns c =
     let f : ℕ → ℕ = first-share (c .args .balance) (c .total-of-total .result) in
     let ds = c .args .demands .now in
     let done = filling-done (c .loop-i .i) (length ds) (c .loop-i .firsts) (c .args .firsts .now) (map f (drop (c .loop-i .i) ds)) (map f ds) (omega arith)
-        (at-drop-all (map f) ds (c .loop-i .i) (c .loop-i-test .left)) (c .loop-i .inv) in
+    (at-drop-all (map f) ds (c .loop-i .i) (c .loop-i-test .left)) (c .loop-i .inv) in
     laid-from _ (map f ds) (c .args .firsts .now) _ (length ds)
     (ap (λ t. map (first-share (c .args .balance) t) ds) (c .total-of-total .ensures .is)) (length-map ds _) done

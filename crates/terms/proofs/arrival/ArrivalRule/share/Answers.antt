@@ -18,7 +18,7 @@ loop-i-again c =
     let served = c .serve-given .result in
     let fits = placed ds (c .args .balance) (length (c .args .shares .now)) (c .in-Continue-check .ensures tt) in
     let e : in-arrival-order (drop i ds) left ≡ min (getD ds i 0) left ∷ in-arrival-order (drop (i + 1) ds) (left - min (getD ds i 0) left) =
-        at-drop-more (λ xs. in-arrival-order xs left) ds i 0 (c .loop-i-test .taken) in
+    at-drop-more (λ xs. in-arrival-order xs left) ds i 0 (c .loop-i-test .taken) in
     let e′ : in-arrival-order (drop i ds) left ≡ served .0 ∷ in-arrival-order (drop (i + 1) ds) (served .1) = rw (c .serve-given .ensures) e in
     filling-next i (served .0) (c .loop-i .shares) (c .args .shares .now) (in-arrival-order (drop i ds) left) (in-arrival-order (drop (i + 1) ds) (served .1))
     (in-arrival-order ds (c .args .balance)) (omega arith) e′ (c .loop-i .inv)
