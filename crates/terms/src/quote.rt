@@ -41,6 +41,10 @@ pub trait Quote: Copy + Worded {
     fn code() -> u8
         ensures { λ r. ⌜ r ≡ code ⌝ };
 
+    // The quote with the lowest number.
+    fn lowest() -> Self
+        ensures { λ r. ⌜ number r ≡ low ⌝ };
+
     // The quote of a number, which is refused exactly outside the range.
     fn read(value: i32) -> Result<Self, QuoteFault>
         ensures { λ r. ⌜ r ≡ quoted (read value) ⌝ };

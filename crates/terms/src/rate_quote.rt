@@ -32,6 +32,10 @@ pub impl Quote for Rate as RateQuote {
         1
     }
 
+    fn lowest() -> Rate {
+        Rate { hundredths: 0 }
+    }
+
     fn read(value: i32) -> Result<Rate, QuoteFault> {
         if value < 0 || value > 9_999 {
             return Err(QuoteFault::OutOfRange);

@@ -1,0 +1,10 @@
+pub mod Sums
+pub mod Foremost
+pub mod Dealt
+pub mod Divisible
+pub mod Bettered
+pub mod Steps
+pub mod Handing
+pub mod Ready
+pub mod Allotting
+pub mod Telling

@@ -1,0 +1,4 @@
+// The award on books worked by hand.
+
+#[cfg(test)]
+mod books;

@@ -1,0 +1,6 @@
+pub mod Finding
+pub mod Fitting
+pub mod Moving
+pub mod Naming
+pub mod Awarding
+pub mod Telling

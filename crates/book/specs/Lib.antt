@@ -1,0 +1,9 @@
+pub mod Faults
+pub mod Outcomes
+pub mod Table
+pub mod Questions
+pub mod Sheets
+pub mod Steps
+pub mod Told
+pub mod Views
+pub mod Judging

@@ -1,0 +1,19 @@
+// The book of one series: the calls on it, and what it tells.
+pub mod book;
+pub mod calls;
+pub mod change;
+pub mod close;
+pub mod entry;
+pub mod event;
+pub mod fault;
+pub mod figures;
+pub mod find;
+pub mod limit;
+pub mod opening;
+pub mod outcome;
+pub mod questions;
+pub mod range;
+pub mod sale;
+pub mod state;
+pub mod take;
+pub mod withdrawal;

@@ -1,0 +1,4 @@
+pub mod Faults
+pub mod Readings
+pub mod Sessions
+pub mod Prints

@@ -1,0 +1,5 @@
+pub mod Digits
+pub mod Lengths
+pub mod Places
+pub mod Rooms
+pub mod Texts

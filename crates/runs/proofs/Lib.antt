@@ -1,0 +1,12 @@
+pub mod Grounds
+pub mod Bids
+pub mod Coherent
+pub mod Moments
+pub mod Rows
+pub mod Given
+pub mod Kept
+pub mod Taking
+pub mod Awarding
+pub mod Following
+pub mod Running
+pub mod Looping

@@ -1,0 +1,4 @@
+// Runs of calls on a book, on examples.
+
+#[cfg(test)]
+mod runs;

@@ -1,0 +1,5 @@
+pub mod By-kind
+pub mod Heads
+pub mod Again
+pub mod Comes-back
+pub mod Returns
