@@ -17,7 +17,7 @@ use Rattle.award.specs.Award.{Bid}
 use Rattle.award.specs.Rows.{bid-in, standing}
 use Rattle.book.specs.Table.{bid-of}
 use Rattle.book.specs.Steps.{stands-as, withdrawn-row, without-row, withdrawn-in}
-use Rattle.book.specs.Judging.{place-of}
+use Rattle.book.specs.Places.{place-of}
 
 -- a place counted from another place on
 abbrev pub from : ℕ → Option ℕ → Option ℕ

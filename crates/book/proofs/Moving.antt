@@ -11,7 +11,7 @@ use Rattle.std.proofs.shelf.Lists.{append-assoc, drop-append-le, drop-more, get
 use Rattle.std.proofs.shelf.Edits.{getD-removed-above, length-removed}
 use Rattle.award.specs.declared.row.Row.{Row}
 use Rattle.book.specs.Steps.{withdrawn-row, without-row, withdrawn-in, rows-with}
-use Rattle.book.specs.Judging.{place-of, closing}
+use Rattle.book.specs.Places.{place-of, closing}
 use Rattle.book.proofs.Finding.{at-without, at-withdrawn, found-at, found-below}
 
 module _ {Q : Type 0} (rows : List (Row Q)) (used : ℕ) where

@@ -15,7 +15,8 @@ use Rattle.award.specs.Rows.{bid-in, standing}
 use Rattle.book.specs.declared.fault.BookFault.{BookFault}
 use Rattle.book.specs.declared.fault.BookFault.the-variants.{NoSuchBid, OtherHouse}
 use Rattle.book.specs.Table.{bid-of}
-use Rattle.book.specs.Judging.{place-of, bid-grounds}
+use Rattle.book.specs.Places.{place-of}
+use Rattle.book.specs.Judging.{bid-grounds}
 use Rattle.book.proofs.Finding.{found-bid, not-found}
 
 module _ {Q : Type 0} (n house used : ℕ) (rows : List (Row Q)) where

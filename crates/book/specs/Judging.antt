@@ -1,4 +1,4 @@
--- How a call is judged, and where the row of a bid is found.
+-- How a call is judged.
 use Prim.Native.Nat.{ℕ, suc}
 use mathlib.Core.Bool.{Bool, cond, not, _||_}
 use mathlib.Core.List.{List, [], _∷_, _++_}
@@ -36,22 +36,9 @@ against read one other s e = first (beyond-state (grounds read (s .notice) (leng
 abbrev pub Judgement : {A : Type 0} → Option BookFault → (A → Type 0) → Result A BookFault → Type 0
 Judgement fault Needed r = Cases r (λ a. (fault ≡ None) × Needed a) (λ f. fault ≡ Some f)
 
--- the place of the row whose bid stands under a number, counted from 0
-abbrev pub place-of : {Q : Type 0} → ℕ → List (Row Q) → Option ℕ
-place-of n [] = None
-place-of n (r ∷ rows) = cond (stands-as n r) (Some 0) (mapped suc (place-of n rows))
-
 -- the grounds against a house that names a bid
 abbrev pub bid-grounds : {Q : Type 0} → ℕ → Option (Bid Q) → List (Ground BookFault)
 bid-grounds house b = when (not (isSome b)) NoSuchBid ∷ when (not (is-of house b)) OtherHouse ∷ []
-
--- the rows, with those behind a place moved up by one as far as another place
-abbrev pub closing : {X : Type 0} → List X → ℕ → ℕ → List X
-closing rows at k = take k (removed rows at) ++ drop k rows
-
--- a sheet with other rows
-abbrev pub on-rows : {Q : Type 0} → Sheet Q → List (Row Q) → Sheet Q
-on-rows s rows = record { notice = s .notice; state = s .state; used = s .used; arrivals = s .arrivals; last = s .last; rows = rows }
 
 -- the ground against work tables of so many places, where so many bids were entered
 abbrev pub table-grounds : ℕ → ℕ → ℕ → List (Ground BookFault)

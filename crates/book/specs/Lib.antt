@@ -7,3 +7,4 @@ pub mod Steps
 pub mod Told
 pub mod Views
 pub mod Judging
+pub mod Places

@@ -9,7 +9,8 @@ ghost use Rattle.terms.specs.Sharing.{demand-fits};
 ghost use Rattle.book.specs.declared.event.Event.the-variants.{Change};
 ghost use Rattle.book.specs.Sheets.{in-use};
 ghost use Rattle.book.specs.Steps.{with-change};
-ghost use Rattle.book.specs.Judging.{against, Judgement, place-of, closing, on-rows};
+ghost use Rattle.book.specs.Places.{place-of, closing, on-rows};
+ghost use Rattle.book.specs.Judging.{against, Judgement};
 ghost use Rattle.book.specs.Views.{view};
 use crate::book::Book;
 use crate::fault::BookFault;
@@ -21,7 +22,7 @@ use terms::quote::Quote;
 
 // What a change needs to be made: the place of its bid's row, and its quote.
 #[derive(Clone, Copy)]
-pub struct Replacement<Q> {
+pub(crate) struct Replacement<Q> {
     pub(crate) at: usize,
     pub(crate) quote: Q,
 }

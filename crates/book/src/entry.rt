@@ -14,8 +14,8 @@ use crate::book::Book;
 use crate::fault::BookFault;
 use crate::fault::BookFromQuote;
 use crate::range::is_house;
-use crate::range::same_series;
 use crate::sale::Sale;
+use crate::series::same_series;
 use award::row::Row;
 use terms::quote::Quote;
 
@@ -64,7 +64,7 @@ impl<'a, S: Sale> Book<'a, S> {
         ensures same { λ _. ⌜ name (now (self .exit) .rows) ≡ name (now (self .entry) .rows) ⌝ }
     {
         let at = self.rows_used() as usize;
-        let number = self.numbers_given() + 1;
+        let number = self.next_number();
         self.rows[at] = Row {
             number,
             house,

@@ -47,6 +47,13 @@ impl<'a, S: Sale> Book<'a, S> {
         self.used
     }
 
+    // The number of the next bid.
+    pub(crate) fn next_number(&self) -> u32
+        ensures { λ r. ⌜ r ≡ numbers-given (past-of (Quote·Quote .read) (view (now (self .entry)))) + 1 ⌝ }
+    {
+        self.numbers_given() + 1
+    }
+
     // Whether lots are between the minimum bid and the offer.
     pub(crate) fn takes_lots(&self, lots: u32) -> bool
         ensures { λ r. ⌜ r ≡ between (view (now (self .entry)) .notice .minimum) lots (view (now (self .entry)) .notice .offer) ⌝ }

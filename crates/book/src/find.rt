@@ -3,7 +3,7 @@ ghost use mathlib.Core.Path.{_≡_};
 ghost use Prim.Native.Nat.{_<_};
 ghost use lib.ListN.{length, getD};
 ghost use Rattle.book.specs.Steps.{stands-as};
-ghost use Rattle.book.specs.Judging.{place-of};
+ghost use Rattle.book.specs.Places.{place-of};
 use award::row::Row;
 
 // Whether the bid of a row stands under a number.

@@ -1,6 +1,5 @@
 // The book of one series: the calls on it, and what it tells.
 pub mod book;
-pub mod calls;
 pub mod change;
 pub mod close;
 pub mod entry;
@@ -14,6 +13,7 @@ pub mod outcome;
 pub mod questions;
 pub mod range;
 pub mod sale;
+pub mod series;
 pub mod state;
 pub mod take;
 pub mod withdrawal;

@@ -12,7 +12,8 @@ ghost use Rattle.award.specs.Rows.{standing, terms-of as award-terms, lots-by-r
 ghost use Rattle.book.specs.Questions.{terms-of};
 ghost use Rattle.book.specs.Sheets.{in-use};
 ghost use Rattle.book.specs.Steps.{state-by};
-ghost use Rattle.book.specs.Judging.{Judgement, table-grounds, on-rows, awarded-by};
+ghost use Rattle.book.specs.Places.{on-rows};
+ghost use Rattle.book.specs.Judging.{Judgement, table-grounds, awarded-by};
 ghost use Rattle.book.specs.Views.{view};
 use crate::book::Book;
 use crate::fault::BookFault;

@@ -1,11 +1,8 @@
 // What a book tells.
 ghost use mathlib.Core.Path.{_≡_};
-ghost use mathlib.Core.Bool.{cond};
 ghost use Prim.Native.Nat.{_≤_};
-ghost use lib.Dec.{ltb};
 ghost use lib.ListN.{length};
 ghost use Rattle.std.specs.shelf.Lists.{sumBy};
-ghost use Rattle.std.specs.declared.option.Option.the-variants.{Some as Present};
 ghost use Rattle.terms.specs.Grounds.{first};
 ghost use Rattle.book.specs.Table.{is-decided, was-given};
 ghost use Rattle.book.specs.Outcomes.{outcome-by, past-limit};

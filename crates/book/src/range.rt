@@ -1,6 +1,5 @@
-// Tests of single values.
+// Ranges of numbers.
 ghost use mathlib.Core.Path.{_≡_};
-ghost use Rattle.std.specs.shelf.Text.{sameBytes};
 ghost use Rattle.terms.specs.Tests.{between};
 
 // Whether a number lies between two others, or is one of them.
@@ -15,11 +14,4 @@ pub(crate) fn is_house(house: u32) -> bool
     ensures { λ r. ⌜ r ≡ between 1 house 9_999 ⌝ }
 {
     within(1, house, 9_999)
-}
-
-// Whether two series codes are the same, byte by byte.
-pub(crate) fn same_series(series: [u8; 8], other: [u8; 8]) -> bool
-    ensures { λ r. ⌜ r ≡ sameBytes series other ⌝ }
-{
-    series == other
 }

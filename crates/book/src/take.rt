@@ -3,7 +3,6 @@ ghost use mathlib.Core.Bool.{false};
 ghost use mathlib.Core.Path.{_≡_};
 ghost use lib.ListN.{length};
 ghost use denote.Ref.{name};
-ghost use Rattle.book.specs.declared.event.Event.the-variants.{Entry, Change, Withdrawal, Close, Limit};
 ghost use Rattle.book.specs.Steps.{step, writes-tables};
 ghost use Rattle.book.specs.Views.{view};
 use crate::book::Book;
@@ -50,8 +49,15 @@ impl<'a, S: Sale> Book<'a, S> {
                     lots,
                 },
             ) => {
-                let change = self.judge_change(number, house, second, quote, lots)?;
-                self.change_at(change.at, number, house, second, change.quote, lots);
+                let replacement = self.judge_change(number, house, second, quote, lots)?;
+                self.change_at(
+                    replacement.at,
+                    number,
+                    house,
+                    second,
+                    replacement.quote,
+                    lots,
+                );
                 Ok(0)
             }
             (

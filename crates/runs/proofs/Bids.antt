@@ -1,5 +1,5 @@
 -- Bids with numbers of their own: one removed, one put last, one looked up; and the lots of all numbers together.
-use Prim.Native.Nat.{ℕ, zero, suc, _+_, _≤_, _<_}
+use Prim.Native.Nat.{ℕ, zero, suc, _+_, _≤_}
 use mathlib.Core.Bool.{Bool, true, false, cond, not}
 use mathlib.Core.List.{List, [], _∷_, _++_}
 use mathlib.Core.Logic.{_≢_}
@@ -8,9 +8,8 @@ use lib.Dec.{eqb}
 use lib.ListN.{length}
 use native.Mathlib.Omega.{arith}
 use Rattle.std.specs.Options.{isSome}
-use Rattle.std.specs.declared.option.Option.{Option}
 use Rattle.std.specs.declared.option.Option.the-variants.{Some, None}
-use Rattle.std.specs.shelf.Lists.{All, sum, sumBy, kept-by}
+use Rattle.std.specs.shelf.Lists.{All, sum}
 use Rattle.std.proofs.shelf.Elements.{all-append, all-kept-by}
 use Rattle.std.proofs.shelf.Sums.{sumBy-cons}
 use Rattle.std.proofs.shelf.Tests.{both-ways, eqb-true, eqb-false, ne-eqb, not-true, cond-false, cond-both}

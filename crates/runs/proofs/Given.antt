@@ -1,5 +1,5 @@
 -- Rows with their allotments, and what is read off them.
-use Prim.Native.Nat.{ℕ, zero, suc, _+_, _≤_, _<_}
+use Prim.Native.Nat.{ℕ, zero, suc, _≤_}
 use mathlib.Core.Bool.{Bool, true, false, cond}
 use mathlib.Core.List.{List, [], _∷_}
 use mathlib.Core.Logic.{_≢_}
@@ -11,7 +11,7 @@ use Rattle.std.specs.declared.option.Option.{Option}
 use Rattle.std.specs.declared.option.Option.the-variants.{Some, None}
 use Rattle.std.specs.shelf.Lists.{All, sum, sumBy}
 use Rattle.std.proofs.shelf.Sums.{sumBy-cons}
-use Rattle.std.proofs.shelf.Tests.{eqb-true, cond-both}
+use Rattle.std.proofs.shelf.Tests.{eqb-true}
 use Rattle.award.specs.declared.row.Row.{Row}
 use Rattle.award.specs.Award.{Bid, next, later}
 use Rattle.award.specs.Rivals.{lots-of}

@@ -15,18 +15,16 @@ use Rattle.std.proofs.shelf.Ways.{tells}
 use Rattle.terms.specs.declared.notice.Notice.{Notice}
 use Rattle.terms.specs.Grounds.{first}
 use Rattle.award.specs.declared.row.Row.{Row}
-use Rattle.award.specs.Award.{cut-off}
 use Rattle.award.specs.Rows.{standing}
 use Rattle.award.proofs.Sums.{sum-zero}
 use Rattle.book.specs.declared.event.Event.{Event}
 use Rattle.book.specs.declared.state.State.{State}
 use Rattle.book.specs.declared.state.State.the-variants.{Open, Closed, Awarded, Void}
 use Rattle.book.specs.Table.{is-decided, Past, was-given, bid-of, grounds, next}
-use Rattle.book.specs.Questions.{cut-by, placed-by, lots-told, outcome-of}
+use Rattle.book.specs.Questions.{cut-by, placed-by, cut-told, placed-told, lots-told, allotment-told, outcome-of, outcome-told}
 use Rattle.book.specs.Sheets.{Sheet, in-use, phase-of, limit-of, cut-of, past-of, opened}
 use Rattle.book.specs.Steps.{rows-with, effect}
-use Rattle.book.specs.Told.{row-of, allotted-in, row-outcome}
-use Rattle.runs.specs.Runs.{Tells}
+use Rattle.book.specs.Told.{row-of, allotted-in, sheet-placed, sheet-cut, sheet-allotment, row-outcome, sheet-outcome}
 use Rattle.runs.proofs.Moments.{told-early}
 use Rattle.runs.proofs.Rows.{Rows-apart}
 
@@ -51,22 +49,29 @@ pub in-use-long : {Q : Type 0} (s : Sheet Q) → s .used ≤ length (s .rows) �
 in-use-long s fit = length-take-le (s .used) (s .rows) fit
 
 -- an undecided state has neither limit nor cut-off
-no-limit : {Q : Type 0} (read : ℤ → Option Q) (st : State) → is-decided (phase-of st) ≡ false → (limit-of read st ≡ None) × (cut-of read st ≡ None)
+pub no-limit : {Q : Type 0} (read : ℤ → Option Q) (st : State) → is-decided (phase-of st) ≡ false → (limit-of read st ≡ None) × (cut-of read st ≡ None)
 no-limit read Open e = (refl, refl)
 no-limit read Closed e = (refl, refl)
 no-limit read (Awarded limit cut) e = absurd (both-ways true e refl)
 no-limit read (Void limit) e = absurd (both-ways true e refl)
 
 module _ {Q : Type 0} (number : Q → ℤ) (read : ℤ → Option Q) (no-worse : Q → Q → Bool) (share : List ℕ → ℕ → List ℕ) where
+  -- what a sheet tells by its rows is what the questions are answered by the rules
+  pub record Tells (s : Sheet Q) : Type 0 where
+    pub placed : sheet-placed s ≡ placed-told no-worse share (s .notice) (past-of read s)
+    pub cut : sheet-cut read s ≡ cut-told no-worse share (s .notice) (past-of read s)
+    pub allotment : (n : ℕ) → sheet-allotment read s n ≡ allotment-told no-worse share (s .notice) (past-of read s) n
+    pub outcome : (n : ℕ) → sheet-outcome read no-worse s n ≡ outcome-told no-worse share (s .notice) (past-of read s) n
+
   -- what calls keep true of a sheet
   pub record Kept (s : Sheet Q) : Type 0 where
     pub fit : s .used ≤ length (s .rows)
     pub few : s .used ≤ 4_096
     pub fresh : is-decided (phase-of (s .state)) ≡ false → Fresh (s .used) (in-use s)
-    pub tells : Tells number read no-worse share s
+    pub tells : Tells s
 
   -- a sheet with nothing awarded
-  pub fresh-tells : (s : Sheet Q) → is-decided (phase-of (s .state)) ≡ false → Fresh (s .used) (in-use s) → Tells number read no-worse share s
+  pub fresh-tells : (s : Sheet Q) → is-decided (phase-of (s .state)) ≡ false → Fresh (s .used) (in-use s) → Tells s
   fresh-tells s early f =
       let p = past-of read s in
       let none = no-limit read (s .state) early in

@@ -8,5 +8,5 @@ pub mod Kept
 pub mod Taking
 pub mod Awarding
 pub mod Following
-pub mod Running
 pub mod Looping
+pub mod Running

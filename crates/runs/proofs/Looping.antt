@@ -2,7 +2,7 @@
 use Prim.Native.Nat.{ℕ, _+_, _≤_, _<_}
 use mathlib.Core.Bool.{Bool}
 use mathlib.Core.List.{List, [], _∷_, _++_}
-use mathlib.Core.Path.{_≡_, refl, sym, ap, _∙_}
+use mathlib.Core.Path.{_≡_, sym, ap, _∙_}
 use lib.IntN.{ℤ}
 use lib.ListN.{length, take, drop, getD, set}
 use native.Mathlib.Omega.{arith}
@@ -10,20 +10,25 @@ use Rattle.std.specs.declared.option.Option.{Option}
 use Rattle.std.proofs.shelf.Lists.{append-assoc, append-nil, at-drop-more, drop-all, drop-set-lt, take-all, take-more-set}
 use Rattle.book.specs.Sheets.{Sheet}
 use Rattle.runs.specs.declared.call.Exchange.{Exchange}
-use Rattle.runs.specs.Runs.{sheet-with, sheet-after, exchange-by, exchanged, calls-of}
+use Rattle.runs.specs.Runs.{sheet-with, sheet-after, exchange-by, calls-of}
 
 module _ {Q : Type 0} (number : Q → ℤ) (read : ℤ → Option Q) (no-worse : Q → Q → Bool) (share : List ℕ → ℕ → List ℕ) where
+  -- the exchanges after a run that starts from a sheet
+  abbrev pub exchanged : Sheet Q → List (Exchange Q) → List (Exchange Q)
+  exchanged s [] = []
+  exchanged s (x ∷ xs) = exchange-by number read no-worse share s x ∷ exchanged (sheet-with number read no-worse share s (x .call)) xs
+
   -- from the sheet `start` with the exchanges `all`, the run has come to the sheet `s`, after `i` of the exchanges, which are now `xs`
   pub record Midway (start : Sheet Q) (all : List (Exchange Q)) (s : Sheet Q) (i : ℕ) (xs : List (Exchange Q)) : Type 0 where
-    pub made : take i xs ++ exchanged number read no-worse share s (drop i xs) ≡ exchanged number read no-worse share start all
+    pub made : take i xs ++ exchanged s (drop i xs) ≡ exchanged start all
     pub kept : sheet-after number read no-worse share s (calls-of (drop i xs)) ≡ sheet-after number read no-worse share start (calls-of all)
 
   -- at the end all are made
   pub midway-all : (start : Sheet Q) (all : List (Exchange Q)) (s : Sheet Q) (i : ℕ) (xs : List (Exchange Q)) → Midway start all s i xs → length xs ≤ i
-      → (xs ≡ exchanged number read no-worse share start all) × (s ≡ sheet-after number read no-worse share start (calls-of all))
+      → (xs ≡ exchanged start all) × (s ≡ sheet-after number read no-worse share start (calls-of all))
   midway-all start all s i xs m h =
       let none = drop-all i xs h in (
-        sym (append-nil xs) ∙ ap (λ ys. ys ++ []) (sym (take-all i xs h)) ∙ ap (λ ys. take i xs ++ exchanged number read no-worse share s ys) (sym none) ∙ m .made,
+        sym (append-nil xs) ∙ ap (λ ys. ys ++ []) (sym (take-all i xs h)) ∙ ap (λ ys. take i xs ++ exchanged s ys) (sym none) ∙ m .made,
         ap (λ ys. sheet-after number read no-worse share s (calls-of ys)) (sym none) ∙ m .kept,
       )
 
@@ -35,18 +40,18 @@ module _ {Q : Type 0} (number : Q → ℤ) (read : ℤ → Option Q) (no-worse :
       let left : drop (i + 1) (set xs i x) ≡ drop (i + 1) xs = drop-set-lt (i + 1) xs i x (omega arith) in
       let front : take (i + 1) (set xs i x) ≡ take i xs ++ x ∷ [] = take-more-set xs i x h in
       let rest = drop (i + 1) xs in
-      let here : exchanged number read no-worse share s (drop i xs) ≡ x ∷ exchanged number read no-worse share after rest =
-      at-drop-more (exchanged number read no-worse share s) xs i d h
-      ∙ ap (λ y. y ∷ exchanged number read no-worse share (sheet-with number read no-worse share s (getD xs i d .call)) rest) (sym x-is)
-      ∙ ap (λ t. x ∷ exchanged number read no-worse share t rest) (sym after-is) in
+      let here : exchanged s (drop i xs) ≡ x ∷ exchanged after rest =
+      at-drop-more (exchanged s) xs i d h
+      ∙ ap (λ y. y ∷ exchanged (sheet-with number read no-worse share s (getD xs i d .call)) rest) (sym x-is)
+      ∙ ap (λ t. x ∷ exchanged t rest) (sym after-is) in
       let on : sheet-after number read no-worse share s (calls-of (drop i xs)) ≡ sheet-after number read no-worse share after (calls-of rest) =
       at-drop-more (λ ys. sheet-after number read no-worse share s (calls-of ys)) xs i d h
       ∙ ap (λ t. sheet-after number read no-worse share t (calls-of rest)) (sym after-is) in
       record {
         made =
-            ap (λ ys. ys ++ exchanged number read no-worse share after (drop (i + 1) (set xs i x))) front
-            ∙ ap (λ ys. (take i xs ++ x ∷ []) ++ exchanged number read no-worse share after ys) left
-            ∙ append-assoc (take i xs) (x ∷ []) (exchanged number read no-worse share after rest)
+            ap (λ ys. ys ++ exchanged after (drop (i + 1) (set xs i x))) front
+            ∙ ap (λ ys. (take i xs ++ x ∷ []) ++ exchanged after ys) left
+            ∙ append-assoc (take i xs) (x ∷ []) (exchanged after rest)
             ∙ ap (λ ys. take i xs ++ ys) (sym here)
             ∙ m .made;
         kept = ap (λ ys. sheet-after number read no-worse share after (calls-of ys)) left ∙ sym on ∙ m .kept;

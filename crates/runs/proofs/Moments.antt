@@ -1,9 +1,9 @@
 -- The law at each moment of a run.
-use Prim.Native.Nat.{ℕ, suc, _+_, _≤_, _<_}
-use mathlib.Core.Bool.{Bool, true, false, cond, not, _&&_, _||_}
-use mathlib.Core.List.{List, [], _∷_, _++_, map}
+use Prim.Native.Nat.{ℕ, suc, _+_, _≤_}
+use mathlib.Core.Bool.{Bool, true, false, cond, not}
+use mathlib.Core.List.{List, [], _∷_, _++_}
 use mathlib.Core.Path.{_≡_, refl, sym, ap, subst, _∙_}
-use lib.Dec.{ltb, leb}
+use lib.Dec.{ltb}
 use lib.IntN.{ℤ}
 use lib.ListN.{length}
 use native.Mathlib.Omega.{arith}
@@ -11,7 +11,6 @@ use Rattle.std.specs.Options.{isSome}
 use Rattle.std.specs.declared.option.Option.{Option}
 use Rattle.std.specs.declared.option.Option.the-variants.{Some, None}
 use Rattle.std.specs.declared.result.Result.the-variants.{Ok, Err}
-use Rattle.std.specs.shelf.Lists.{sum}
 use Rattle.std.proofs.shelf.Lists.{length-map}
 use Rattle.std.proofs.shelf.Tests.{and-parts, both-ways, cond-both, not-from-false, not-true}
 use Rattle.terms.specs.declared.notice.Notice.{Notice}
@@ -22,19 +21,18 @@ use Rattle.terms.specs.Grounds.{first}
 use Rattle.terms.proofs.Noticing.{offer-kept, placement-kept}
 use Rattle.award.specs.declared.reckoning.Reckoning.{Reckoning}
 use Rattle.award.specs.declared.reckoning.Reckoning.the-variants.{Void, Everyone, Divided}
-use Rattle.award.specs.Award.{Bid, Terms, next, later, better, same, reckoned, cut-off, dealt, demands-at, handed-out, allotments}
-use Rattle.award.specs.Rivals.{Act, Sound, lots-of}
+use Rattle.award.specs.Award.{Bid, Terms, next, later, better, same, reckoned, dealt, demands-at, handed-out, allotments}
+use Rattle.award.specs.Rivals.{Act, Sound}
 use Rattle.award.proofs.Bettered.{cannot-be-bettered}
 use Rattle.book.specs.declared.event.Event.{Event}
 use Rattle.book.specs.declared.event.Event.the-variants.{Entry, Change, Withdrawal, Close, Limit}
-use Rattle.book.specs.declared.fault.BookFault.{BookFault}
 use Rattle.book.specs.declared.fault.BookFault.the-variants.{NotInThisState, NoSuchBid}
 use Rattle.book.specs.declared.outcome.Outcome.{Outcome}
 use Rattle.book.specs.declared.outcome.Outcome.the-variants as outcome
-use Rattle.book.specs.Outcomes.{outcome-lots, outcome-by, past-limit}
-use Rattle.book.specs.Table.{Phase, takes-bids, awaits-limit, is-decided, Past, opening-past, was-given, bid-of, grounds}
+use Rattle.book.specs.Outcomes.{outcome-lots, outcome-by}
+use Rattle.book.specs.Table.{Phase, is-decided, Past, opening-past, was-given, bid-of, grounds}
 use Rattle.book.specs.Table as rules
-use Rattle.book.specs.Questions.{told-unless, number-grounds, terms-of, cut-by, placed-by, lots-by, cut-told, placed-told, lots-told, allotment-told, outcome-of, outcome-told}
+use Rattle.book.specs.Questions.{told-unless, number-grounds, terms-of, cut-by, placed-by, lots-by, cut-told, placed-told, lots-told, outcome-of, outcome-told}
 use Rattle.runs.specs.declared.call.Call.{Call}
 use Rattle.runs.specs.declared.call.Call.the-variants as call
 use Rattle.runs.specs.Calls.{accepted-next, refusal, past-with, past-after}

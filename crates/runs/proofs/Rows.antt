@@ -1,27 +1,22 @@
 -- Rows in use, each under a number of its own: what an entry, a change, a withdrawal and an award make of them.
-use Prim.Native.Nat.{ℕ, zero, suc, _+_, _≤_, _<_}
+use Prim.Native.Nat.{ℕ, suc, _+_}
 use mathlib.Core.Bool.{Bool, true, false, cond, not, _&&_}
 use mathlib.Core.List.{List, [], _∷_, _++_}
 use mathlib.Core.Logic.{_≢_}
 use mathlib.Core.Path.{_≡_, refl, sym, ap, subst, _∙_}
 use lib.Dec.{eqb}
-use lib.ListN.{length, take}
+use lib.ListN.{length}
 use native.Mathlib.Omega.{arith}
 use Rattle.std.specs.Options.{isSome}
-use Rattle.std.specs.declared.option.Option.{Option}
 use Rattle.std.specs.declared.option.Option.the-variants.{Some, None}
-use Rattle.std.specs.shelf.Lists.{All, sum, sumBy}
+use Rattle.std.specs.shelf.Lists.{All}
 use Rattle.std.proofs.shelf.Elements.{all-append}
-use Rattle.std.proofs.shelf.Sums.{sumBy-cons}
-use Rattle.std.proofs.shelf.Tests.{and-parts, both-ways, eqb-true, eqb-false, ne-eqb, cond-both, cond-true, cond-false}
+use Rattle.std.proofs.shelf.Tests.{and-parts, both-ways, eqb-true, ne-eqb, cond-both, cond-false}
 use Rattle.award.specs.declared.row.Row.{Row}
-use Rattle.award.specs.Award.{Bid, next, later}
-use Rattle.award.specs.Rivals.{lots-of}
-use Rattle.award.specs.Rows.{bid-in, standing, by-row, with-lots, given-to}
+use Rattle.award.specs.Award.{Bid}
+use Rattle.award.specs.Rows.{bid-in, standing}
 use Rattle.book.specs.Table.{bid-of, without}
 use Rattle.book.specs.Steps.{stands-as, without-row, withdrawn-row, withdrawn-in}
-use Rattle.book.specs.Told.{row-of, allotted-in}
-use Rattle.runs.proofs.Bids.{lots-none}
 
 -- no two rows have the same number
 abbrev pub Rows-apart : {Q : Type 0} → List (Row Q) → Type 0

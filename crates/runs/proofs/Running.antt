@@ -3,13 +3,12 @@ use Prim.Native.Nat.{ℕ, min, _≤_}
 use mathlib.Core.Bool.{Bool, true, not, _||_}
 use mathlib.Core.List.{List, [], _∷_, _++_}
 use mathlib.Core.Path.{_≡_, refl, sym, ap, subst, _∙_}
-use lib.Dec.{leb, ltb}
+use lib.Dec.{ltb}
 use lib.IntN.{ℤ}
-use lib.ListN.{length, getD}
+use lib.ListN.{length, getD, take}
 use native.Mathlib.Omega.{arith}
 use Rattle.std.specs.Options.{isSome}
 use Rattle.std.specs.declared.option.Option.{Option}
-use Rattle.std.specs.declared.result.Result.{Result}
 use Rattle.std.proofs.shelf.Tests.{and-from}
 use Rattle.std.proofs.shelf.Ways.{tells}
 use Rattle.terms.specs.declared.notice.Notice.{Notice}
@@ -19,9 +18,9 @@ use Rattle.terms.specs.Sharing.{Fair, few, lots-fit}
 use Rattle.terms.specs.Notices.{notice-fits, numbers-fit, series-fits}
 use Rattle.terms.specs.Grounds.{when, first}
 use Rattle.award.specs.declared.row.Row.{Row}
+use Rattle.award.specs.Rows.{standing}
 use Rattle.book.specs.declared.event.Event.{Event}
 use Rattle.book.specs.declared.event.Event.the-variants.{Entry, Change, Withdrawal, Close, Limit}
-use Rattle.book.specs.declared.fault.BookFault.{BookFault}
 use Rattle.book.specs.declared.fault.BookFault.the-variants.{NotInThisState, QuoteOutOfRange, ShortTable}
 use Rattle.book.specs.Table.{Past, opening-past, awaits-limit}
 use Rattle.book.specs.Sheets.{Sheet, phase-of, past-of, opened}
@@ -30,9 +29,9 @@ use Rattle.runs.specs.declared.call.Call.{Call}
 use Rattle.runs.specs.declared.call.Answer.{Answer}
 use Rattle.runs.specs.declared.call.Exchange.{Exchange}
 use Rattle.runs.specs.Calls.{past-with, past-after, answer-to, answered}
-use Rattle.runs.specs.Law.{Moment}
-use Rattle.runs.specs.Runs.{sheet-with, sheet-after, sheet-answer, exchanged, calls-of, answers-of, Run-law}
+use Rattle.runs.specs.Runs.{sheet-with, sheet-after, calls-of, answers-of, Run-law}
 use Rattle.runs.proofs.Moments.{moment}
+use Rattle.runs.proofs.Looping.{exchanged}
 use Rattle.runs.proofs.Kept.{Kept, Follows, opened-kept}
 use Rattle.runs.proofs.Following.{call-follows, answer-follows}
 
@@ -62,7 +61,7 @@ module _ {Q : Type 0} (number : Q → ℤ) (read : ℤ → Option Q) (no-worse :
   table-cut : (one other used : ℕ) → used ≤ 4_096 → (ltb (min one 4_096) used || ltb (min other 4_096) used) ≡ (ltb one used || ltb other used)
   table-cut one other used h = grind (arith, tells)
 
-  pub step-cut : (one other : ℕ) (s : Sheet Q) (e : Event) → s .used ≤ 4_096
+  step-cut : (one other : ℕ) (s : Sheet Q) (e : Event) → s .used ≤ 4_096
       → step number read no-worse share (min one 4_096) (min other 4_096) s e ≡ step number read no-worse share one other s e
   step-cut one other s (Entry series house second quote lots) h = refl
   step-cut one other s (Change n house second quote lots) h = refl
@@ -79,6 +78,12 @@ module _ {Q : Type 0} (number : Q → ℤ) (read : ℤ → Option Q) (no-worse :
       ∷ []))
       s (effect number read no-worse share s (Limit quote)) 0)
       (table-cut one other (s .used) h)
+
+  -- work tables of as many places as are named, or of 4,096
+  pub step-named : (one other demands shares : ℕ) (s : Sheet Q) (e : Event) → s .used ≤ 4_096 → demands ≡ min one 4_096 → shares ≡ min other 4_096
+      → step number read no-worse share demands shares s e ≡ step number read no-worse share one other s e
+  step-named one other demands shares s e h d t =
+      ap (λ n. step number read no-worse share n shares s e) d ∙ ap (λ n. step number read no-worse share (min one 4_096) n s e) t ∙ step-cut one other s e h
 
   -- the calls stay
   pub exchanged-calls : (xs : List (Exchange Q)) (s : Sheet Q)
@@ -126,19 +131,31 @@ module _ {Q : Type 0} (number : Q → ℤ) (read : ℤ → Option Q) (no-worse :
           long = more .long ∙ f .long;
         }
 
-    pub run-law : ((ds : List ℕ) (s : ℕ) → lots-fit ds s ≡ true → few ds ≡ true → Fair ds s (share ds s))
-        → (notice : Notice) → notice-fits notice ≡ true → (rows : List (Row Q)) (xs : List (Exchange Q))
-        → Run-law number read no-worse share notice rows xs
-        (sheet-after number read no-worse share (opened notice rows) (calls-of xs) .rows)
-        (exchanged number read no-worse share (opened notice rows) xs)
-    run-law fair notice fits rows xs =
-        let answers = exchanged-answers xs (opened notice rows) (opened-kept number read no-worse share notice rows) in
-        record {
-          same-calls = exchanged-calls xs (opened notice rows);
-          answers = answers;
-          each-answer = λ before c after none is.
-              ap (λ ys. getD ys (length before) none) (answers ∙ ap (answered read no-worse share notice (length rows) opening-past) is)
-              ∙ answered-at read no-worse share notice (length rows) before c after none opening-past;
-          law = λ before after is. moment read no-worse share notice (length rows) kind fair fits before;
-          rows-are = refl;
-        }
+    module _ (fair : (ds : List ℕ) (s : ℕ) → lots-fit ds s ≡ true → few ds ≡ true → Fair ds s (share ds s)) (notice : Notice) (fits : notice-fits notice ≡ true)
+        (rows : List (Row Q)) (xs : List (Exchange Q)) where
+      -- the sheet at the end
+      abbrev end : Sheet Q
+      end = sheet-after number read no-worse share (opened notice rows) (calls-of xs)
+
+      law-at-end : Run-law number read no-worse share notice rows xs (end .rows) (exchanged number read no-worse share (opened notice rows) xs)
+      law-at-end =
+          let start = opened-kept number read no-worse share notice rows in
+          let answers = exchanged-answers xs (opened notice rows) start in
+          let same = run-follows (calls-of xs) (opened notice rows) start .same in
+          record {
+            same-calls = exchanged-calls xs (opened notice rows);
+            answers = answers;
+            each-answer = λ before c after none is.
+                ap (λ ys. getD ys (length before) none) (answers ∙ ap (answered read no-worse share notice (length rows) opening-past) is)
+                ∙ answered-at read no-worse share notice (length rows) before c after none opening-past;
+            law = λ before after is. moment read no-worse share notice (length rows) kind fair fits before;
+            rows-are = refl;
+            rows-stand = ap (λ p. standing (take (p .entered) (end .rows))) (sym same) ∙ ap (λ p. p .standing) same;
+          }
+
+      -- the law of a run that left such exchanges and rows
+      pub run-law : (rows-after : List (Row Q)) (xs-after : List (Exchange Q)) → rows-after ≡ end .rows
+          → xs-after ≡ exchanged number read no-worse share (opened notice rows) xs → Run-law number read no-worse share notice rows xs rows-after xs-after
+      run-law rows-after xs-after kept made =
+          subst (λ r. Run-law number read no-worse share notice rows xs r xs-after) (sym kept)
+          (subst (λ ys. Run-law number read no-worse share notice rows xs (end .rows) ys) (sym made) law-at-end)

@@ -25,7 +25,7 @@ use Rattle.runs.proofs.Grounds.{none-some, some-is, first-none}
 use Rattle.runs.proofs.Bids.{found-all}
 use Rattle.runs.proofs.Coherent.{open-undecided}
 use Rattle.runs.proofs.Rows.{standing-append, standing-numbers, standing-moved, standing-withdrawn, all-moved, all-withdrawn, apart-moved, apart-withdrawn, apart-push, length-withdrawn, length-moved, others-moved}
-use Rattle.runs.proofs.Kept.{in-use-with, length-with, in-use-long, Kept, fresh-tells, Follows, taking, Takes-on}
+use Rattle.runs.proofs.Kept.{no-limit, in-use-with, length-with, in-use-long, Kept, fresh-tells, Follows, taking, Takes-on}
 
 module _ {Q : Type 0} (number : Q → ℤ) (read : ℤ → Option Q) (no-worse : Q → Q → Bool) (share : List ℕ → ℕ → List ℕ) (s : Sheet Q) (k : Kept number read no-worse share s) where
   pub entry-follows : (series : List ℕ) (house second : ℕ) (quote : ℤ) (lots : ℕ) → Takes-on number read no-worse share s (Entry series house second quote lots)
@@ -50,7 +50,7 @@ module _ {Q : Type 0} (number : Q → ℤ) (read : ℤ → Option Q) (no-worse :
       by-quote (Some a) q e early room =
           let r = new-row (s .used + 1) house a lots in
           let used = in-use s ++ r ∷ [] in
-          let long : length used ≡ s .used + 1 = length-push (in-use s) r ∙ ap (λ n. n + 1) in-use-long s (k .fit) in
+          let long : length used ≡ s .used + 1 = length-push (in-use s) r ∙ ap (λ n. n + 1) (in-use-long s (k .fit)) in
           let is = in-use-with used (s .rows) (s .used + 1) long in
           let total = length-with used (s .rows) (s .used + 1) long (omega arith) in
           let f = k .fresh early in

@@ -12,7 +12,7 @@ use Rattle.terms.specs.Grounds.{first}
 use Rattle.book.specs.declared.event.Event.{Event}
 use Rattle.book.specs.declared.fault.BookFault.{BookFault}
 use Rattle.book.specs.declared.outcome.Outcome as outcome
-use Rattle.book.specs.Table.{Past, opening-past, grounds, answer, next}
+use Rattle.book.specs.Table.{Past, grounds, answer, next}
 use Rattle.book.specs.Questions.{count-told, placed-told, cut-told, allotment-told, outcome-told}
 use Rattle.runs.specs.declared.call.Call.{Call}
 use Rattle.runs.specs.declared.call.Call.the-variants as call

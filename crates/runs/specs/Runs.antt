@@ -4,16 +4,16 @@ use mathlib.Core.Bool.{Bool}
 use mathlib.Core.List.{List, [], _∷_, _++_, map}
 use mathlib.Core.Path.{_≡_}
 use lib.IntN.{ℤ}
-use lib.ListN.{length, getD}
+use lib.ListN.{length, getD, take}
 use Rattle.std.specs.declared.option.Option.{Option}
 use Rattle.std.specs.declared.result.Result.{Result}
 use Rattle.std.specs.declared.result.Result.the-variants.{Ok, Err}
 use Rattle.terms.specs.declared.notice.Notice.{Notice}
 use Rattle.award.specs.declared.row.Row.{Row}
+use Rattle.award.specs.Rows.{standing}
 use Rattle.book.specs.declared.fault.BookFault.{BookFault}
 use Rattle.book.specs.Table.{opening-past}
-use Rattle.book.specs.Questions.{placed-told, cut-told, allotment-told, outcome-told}
-use Rattle.book.specs.Sheets.{Sheet, past-of, opened}
+use Rattle.book.specs.Sheets.{Sheet, opened}
 use Rattle.book.specs.Steps.{step}
 use Rattle.book.specs.Told.{sheet-count, sheet-placed, sheet-cut, sheet-allotment, sheet-outcome}
 use Rattle.runs.specs.declared.call.Call.{Call}
@@ -61,21 +61,9 @@ module _ {Q : Type 0} (number : Q → ℤ) (read : ℤ → Option Q) (no-worse :
   sheet-answer s (call.Allotment n) = lots-answer (sheet-allotment read s n)
   sheet-answer s (call.Outcome n) = outcome-answer (sheet-outcome read no-worse s n)
 
-  -- what it tells by its rows is what the questions are answered by the rules
-  pub record Tells (s : Sheet Q) : Type 0 where
-    pub placed : sheet-placed s ≡ placed-told no-worse share (s .notice) (past-of read s)
-    pub cut : sheet-cut read s ≡ cut-told no-worse share (s .notice) (past-of read s)
-    pub allotment : (n : ℕ) → sheet-allotment read s n ≡ allotment-told no-worse share (s .notice) (past-of read s) n
-    pub outcome : (n : ℕ) → sheet-outcome read no-worse s n ≡ outcome-told no-worse share (s .notice) (past-of read s) n
-
   -- an exchange with the answer to its call beside it
   abbrev pub exchange-by : Sheet Q → Exchange Q → Exchange Q
   exchange-by s x = record { call = x .call; answer = sheet-answer s (x .call) }
-
-  -- the exchanges after a run that starts from a sheet
-  abbrev pub exchanged : Sheet Q → List (Exchange Q) → List (Exchange Q)
-  exchanged s [] = []
-  exchanged s (x ∷ xs) = exchange-by s x ∷ exchanged (sheet-with s (x .call)) xs
 
   -- A run: a book is opened on the notice over the rows, and each call is made in turn.
   pub record Run-law (notice : Notice) (rows : List (Row Q)) (exchanges : List (Exchange Q)) (rows-after : List (Row Q)) (exchanges-after : List (Exchange Q)) : Type 0 where
@@ -91,5 +79,9 @@ module _ {Q : Type 0} (number : Q → ℤ) (read : ℤ → Option Q) (no-worse :
         ≡ answer-to read no-worse share notice (length rows) (come-to read no-worse share notice (length rows) before) c
     -- The law holds at each moment of the run.
     pub law : (before after : List Call) → calls-of exchanges ≡ before ++ after → Moment read no-worse share notice (length rows) before
-    -- The rows are those of the book after its last call.
+    -- The rows are those of the book after its last call:
     pub rows-are : rows-after ≡ sheet-after (opened notice rows) (calls-of exchanges) .rows
+    -- as many as bids were entered are used, from the first, and those that stand hold the standing bids in the order of their arrival.
+    pub rows-stand :
+        standing (take (come-to read no-worse share notice (length rows) (calls-of exchanges) .entered) rows-after)
+        ≡ come-to read no-worse share notice (length rows) (calls-of exchanges) .standing

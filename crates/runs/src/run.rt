@@ -58,22 +58,6 @@ fn cut(table: &mut [u32; MOST_BIDS], places: usize) -> &mut [u32]
     &mut table[0..places.min(MOST_BIDS)]
 }
 
-// Puts an event to the book, with as many places of the two work tables as are named and there.
-fn put_with<S: Sale>(
-    book: &mut Book<'_, S>,
-    event: Event,
-    one: usize,
-    other: usize,
-    demands: &mut [u32; MOST_BIDS],
-    shares: &mut [u32; MOST_BIDS],
-) -> Answer<S::Quote>
-    ensures answer { λ r. ⌜ r ≡ sheet-answer (Quote·Quote .number) (Quote·Quote .read) (Quote·Quote .«no_worse») (Rule·SharingRule .meaning) (view (now (book .entry))) (Putting event (min one 4_096) (min other 4_096)) ⌝ }
-    ensures after { λ _. ⌜ view (now (book .exit)) ≡ sheet-with (Quote·Quote .number) (Quote·Quote .read) (Quote·Quote .«no_worse») (Rule·SharingRule .meaning) (view (now (book .entry))) (Putting event (min one 4_096) (min other 4_096)) ⌝ }
-    ensures same { λ _. ⌜ name (now (book .exit) .rows) ≡ name (now (book .entry) .rows) ⌝ }
-{
-    put_answer(book.take(event, cut(demands, one), cut(shares, other)))
-}
-
 // Puts an event to the book, with as many places of two work tables as are named. No more than 4,096 bids are entered, so that 4,096 places
 // serve as well as more.
 fn put<S: Sale>(
@@ -88,7 +72,7 @@ fn put<S: Sale>(
     ensures after { λ _. ⌜ view (now (book .exit)) ≡ sheet-with (Quote·Quote .number) (Quote·Quote .read) (Quote·Quote .«no_worse») (Rule·SharingRule .meaning) (view (now (book .entry))) (Putting event one other) ⌝ }
     ensures same { λ _. ⌜ name (now (book .exit) .rows) ≡ name (now (book .entry) .rows) ⌝ }
 {
-    put_with(book, event, one, other, demands, shares)
+    put_answer(book.take(event, cut(demands, one), cut(shares, other)))
 }
 
 // Makes one call on the book.

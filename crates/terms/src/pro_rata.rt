@@ -108,8 +108,8 @@ fn lay_firsts(balance: u32, demands: &[u32], firsts: &mut [u32])
     ensures { λ _. ⌜ now (firsts .exit) ≡ laid (first-shares (now (demands .entry)) balance) (now (firsts .entry)) ⌝ }
 {
     let total = total_of(balance, demands);
-    for (i, d) in demands.iter().enumerate() {
-        firsts[i] = first_share(balance, total, *d);
+    for (at, d) in demands.iter().enumerate() {
+        firsts[at] = first_share(balance, total, *d);
     }
 }
 

@@ -1,6 +1,6 @@
 use mathlib.Core.Path.{_≡_, sym, ap, _∙_}
 use Rattle.std.proofs.shelf.Lists.{at-drop-all}
-use Rattle.book.specs.Judging.{place-of}
+use Rattle.book.specs.Places.{place-of}
 use Rattle.book.proofs.Finding.{from, from-all, place-here, place-later}
 use Rattle.book.proofs.find.find.Needs as need
 

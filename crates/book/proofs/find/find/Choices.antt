@@ -1,6 +1,6 @@
 use mathlib.Core.Path.{_≡_}
 use lib.ListN.{drop}
-use Rattle.book.specs.Judging.{place-of}
+use Rattle.book.specs.Places.{place-of}
 use Rattle.book.proofs.Finding.{from}
 use Rattle.book.proofs.find.find.Given as given
 

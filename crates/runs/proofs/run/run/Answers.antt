@@ -1,15 +1,10 @@
-use mathlib.Core.List.{List}
-use mathlib.Core.Path.{_≡_, refl, sym, ap, subst, _∙_}
-use lib.ListN.{length, getD}
+use mathlib.Core.Path.{_≡_, ap, _∙_}
 use denote.Ref.{now}
 use borrow.Author.Needs.{needs}
-use native.Mathlib.Omega.{arith}
-use Rattle.award.specs.declared.row.Row.{Row}
-use Rattle.book.specs.Sheets.{Sheet, opened}
+use Rattle.book.specs.Sheets.{opened}
 use Rattle.book.specs.Views.{view}
-use Rattle.runs.specs.declared.call.Exchange.{Exchange}
-use Rattle.runs.specs.Runs.{sheet-after, calls-of, answers-of, exchanged}
-use Rattle.runs.proofs.Looping.{midway-all, midway-more}
+use Rattle.runs.specs.Runs.{sheet-after, calls-of}
+use Rattle.runs.proofs.Looping.{exchanged, midway-all, midway-more}
 use Rattle.runs.proofs.Running.{checked-fits, run-law}
 use Rattle.runs.proofs.run.run.Needs as need
 
@@ -38,11 +33,4 @@ returns g c =
     let kept : view (c .loop-exchange .book) ≡ sheet-after number read no-worse share (opened notice rows) (calls-of calls) =
     end .1 ∙ ap (λ s. sheet-after number read no-worse share s (calls-of calls)) start in
     let rows-end = ap (λ s. s .rows) kept in
-    let law = run-law number read no-worse share (g .Quote·Quote·met .lawful) (g .Rule·SharingRule·met .fair) notice (checked-fits (c .args .notice)) rows calls in
-    record {
-      same-calls = ap calls-of made ∙ law .same-calls;
-      answers = ap answers-of made ∙ law .answers;
-      each-answer = λ before call after none is. ap (λ xs. getD (answers-of xs) (length before) none) made ∙ law .each-answer before call after none is;
-      law = law .law;
-      rows-are = search needs;
-    }
+    run-law number read no-worse share (g .Quote·Quote·met .lawful) (g .Rule·SharingRule·met .fair) notice (checked-fits (c .args .notice)) rows calls _ _ (search needs) made

@@ -8,7 +8,7 @@ use Rattle.award.specs.declared.row.Row.{Row}
 use Rattle.award.specs.Rows.{with-lots, given-to}
 use Rattle.award.proofs.Allotting.{given-none, given-more}
 use Rattle.book.specs.Sheets.{Sheet}
-use Rattle.book.specs.Judging.{on-rows}
+use Rattle.book.specs.Places.{on-rows}
 use Rattle.book.specs.Views.{view}
 use Rattle.book.proofs.Fitting.{fit-set, fit-at}
 use Rattle.book.proofs.book.Book.allot.Needs as need

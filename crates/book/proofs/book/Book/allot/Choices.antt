@@ -2,7 +2,7 @@ use mathlib.Core.Path.{_≡_}
 use lib.ListN.{take}
 use denote.Ref.{name, now}
 use Rattle.award.specs.Rows.{given-to}
-use Rattle.book.specs.Judging.{on-rows}
+use Rattle.book.specs.Places.{on-rows}
 use Rattle.book.specs.Views.{view}
 use Rattle.book.proofs.book.Book.allot.Given as given
 

@@ -12,7 +12,7 @@ use Rattle.book.specs.declared.fault.BookFault.{BookFault}
 use Rattle.book.specs.Questions.{terms-of}
 use Rattle.book.specs.Sheets.{Sheet}
 use Rattle.book.specs.Steps.{state-by}
-use Rattle.book.specs.Judging.{on-rows}
+use Rattle.book.specs.Places.{on-rows}
 use Rattle.book.specs.Views.{view}
 use Rattle.book.proofs.Awarding.{quoted-ok, limit-taken, lots-in-front, in-state}
 use Rattle.book.proofs.book.Book.award_by.Needs as need

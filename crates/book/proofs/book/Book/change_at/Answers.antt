@@ -7,7 +7,7 @@ use lib.ListN.{length, set}
 use Rattle.award.specs.declared.row.Row.{Row}
 use Rattle.book.specs.Sheets.{Sheet}
 use Rattle.book.specs.Steps.{new-row}
-use Rattle.book.specs.Judging.{on-rows}
+use Rattle.book.specs.Places.{on-rows}
 use Rattle.book.specs.Views.{view}
 use Rattle.book.proofs.Finding.{found-below}
 use Rattle.book.proofs.Moving.{moved-last}

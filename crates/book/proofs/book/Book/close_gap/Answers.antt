@@ -7,7 +7,7 @@ use lib.ListN.{length}
 use Rattle.std.proofs.shelf.Lists.{length-set}
 use Rattle.award.specs.declared.row.Row.{Row}
 use Rattle.book.specs.Sheets.{Sheet}
-use Rattle.book.specs.Judging.{closing, on-rows}
+use Rattle.book.specs.Places.{closing, on-rows}
 use Rattle.book.specs.Views.{view}
 use Rattle.book.proofs.Fitting.{fit-set, fit-at}
 use Rattle.book.proofs.Moving.{closing-none, closing-more}

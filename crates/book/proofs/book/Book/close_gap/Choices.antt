@@ -1,6 +1,6 @@
 use mathlib.Core.Path.{_≡_}
 use denote.Ref.{name, now}
-use Rattle.book.specs.Judging.{closing, on-rows}
+use Rattle.book.specs.Places.{closing, on-rows}
 use Rattle.book.specs.Views.{view}
 use Rattle.book.proofs.book.Book.close_gap.Given as given
 

@@ -23,11 +23,11 @@ ghost-self g c =
 pub returns : need.returns
 returns g c =
     let b = c .args .self .now in
-    let row = λ (n : ℕ). new-row (n + 1) (c .args .house) (c .args .quote) (c .args .lots) in
-    let rows = ap (λ (n : ℕ). set (b .rows .now) (c .rows-used-at .result) (row n)) (c .numbers-given-number .ensures)
-    ∙ next-written (b .rows .now) (b .used) (c .rows-used-at .result) (row (b .used)) (c .rows-used-at .ensures) (c .pre .room) in
+    let row = λ (n : ℕ). new-row n (c .args .house) (c .args .quote) (c .args .lots) in
+    let rows = ap (λ (n : ℕ). set (b .rows .now) (c .rows-used-at .result) (row n)) (c .next-number-number .ensures)
+    ∙ next-written (b .rows .now) (b .used) (c .rows-used-at .result) (row (b .used + 1)) (c .rows-used-at .ensures) (c .pre .room) in
     record {
-      result = ap (λ (n : ℕ). n + 1) (c .numbers-given-number .ensures);
+      result = c .next-number-number .ensures;
       after = ap (λ (rs : List (Row (g .S·Quote .Denot))). record {
         notice = b .notice .notice;
         state = b .state;

@@ -2,7 +2,7 @@ use Prim.Native.Nat.{ℕ, _-_}
 use native.Mathlib.Omega.{arith}
 use mathlib.Core.Path.{_≡_, ap, _∙_}
 use lib.ListN.{take}
-use Rattle.book.specs.Judging.{place-of}
+use Rattle.book.specs.Places.{place-of}
 use Rattle.book.proofs.book.Book.place_of.Needs as need
 
 pub returns : need.returns
