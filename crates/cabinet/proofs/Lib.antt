@@ -1,2 +1,7 @@
 pub mod Opening
 pub mod Attending
+pub mod Acting
+pub mod Going
+pub mod Lowest
+pub mod Blank
+pub mod Sufficing
