@@ -1,4 +1,4 @@
--- Each rule gives one share to each demand, no larger than it, and shares out the whole balance.
+-- By each rule every demand has its share, no larger than itself, and the shares together are the whole balance.
 use Prim.Native.Nat.{ℕ, zero, suc, min, _+_, _-_, _*_, _/_, _≤_, _<_}
 use mathlib.Core.Bool.{Bool, true, false, cond, _&&_}
 use mathlib.Core.List.{List, [], _∷_, _++_}
