@@ -1,4 +1,6 @@
 // The act program: a notice and a session come from standard input, and the refusals and the act go to standard output.
+#![tactic(auto)]
+
 use cabinet::whole::print;
 use std::io;
 use std::io::{Read, Write};

@@ -1,4 +1,6 @@
 // The award of an offer among the bids for it.
+#![tactic(auto)]
+
 pub mod allot;
 pub mod award;
 pub mod bids;

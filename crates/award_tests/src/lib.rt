@@ -1,4 +1,6 @@
 // The award on books worked by hand.
 
+#![tactic(auto)]
+
 #[cfg(test)]
 mod books;

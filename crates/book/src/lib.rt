@@ -1,4 +1,6 @@
 // The book of one series: the calls on it, and what it tells.
+#![tactic(auto)]
+
 pub mod book;
 pub mod change;
 pub mod close;

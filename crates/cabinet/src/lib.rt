@@ -1,4 +1,6 @@
 // The cabinet: a session of messages over a book, and what is printed of it.
+#![tactic(auto)]
+
 pub mod act;
 mod attend;
 pub mod fault;

@@ -1,4 +1,6 @@
 // Whole prints, worked out by hand from the rules.
+#![tactic(auto)]
+
 #[cfg(test)]
 mod acts;
 #[cfg(test)]

@@ -1,4 +1,6 @@
 // The lines that the cabinet prints, as bytes at the front of a lent space.
+#![tactic(auto)]
+
 pub mod ending;
 pub mod head;
 mod lay;

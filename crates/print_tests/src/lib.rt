@@ -1,4 +1,6 @@
 // Tests of the cabinet's lines: worked lines, the longest ones, and spaces that are just long enough.
+#![tactic(auto)]
+
 #[cfg(test)]
 mod acts;
 #[cfg(test)]

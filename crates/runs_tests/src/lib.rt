@@ -1,4 +1,6 @@
 // Runs of calls on a book, on examples.
 
+#![tactic(auto)]
+
 #[cfg(test)]
 mod runs;

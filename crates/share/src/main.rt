@@ -1,4 +1,6 @@
 // Divides a balance among demands by a sharing rule, and shows how: share RULE BALANCE DEMAND..
+#![tactic(auto)]
+
 mod complaint;
 mod division;
 mod report;

@@ -1,4 +1,6 @@
 // The terms of an auction: kinds of quote, sharing rules, and the notice.
+#![tactic(auto)]
+
 pub mod arrival;
 pub mod check;
 pub mod checked;

@@ -1,4 +1,6 @@
 // The cabinet's messages: a reader over borrowed bytes, a writer into a lent space, and the way there and back.
+#![tactic(auto)]
+
 pub mod back;
 pub mod call;
 mod decode;

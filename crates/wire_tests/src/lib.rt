@@ -1,4 +1,6 @@
 // Tests of the cabinet's messages, on bytes of every sort.
+#![tactic(auto)]
+
 #[cfg(test)]
 mod reading;
 #[cfg(test)]

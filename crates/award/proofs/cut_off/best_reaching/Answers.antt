@@ -9,6 +9,6 @@ loop-i-init g c = foremost_none c.args.rows.now g.Q.Quote.no_worse (λ q. leb c.
 
 pub loop-i-preserved : goal.loop-i-preserved
 loop-i-preserved g c =
-    c.best-with-best.ensures
+    c.best_with-best.ensures
     ∙ foremost_more c.args.rows.now g.Q.Quote.no_worse (λ q. leb c.args.offer (demand g.Q.Quote.no_worse q (standing c.args.rows.now)))
     c.loop-i.i c.index-rows-i.result c.loop-i.best (omega arith) (omega arith) c.index-rows-i.is c.loop-i.invariant

@@ -4,8 +4,8 @@ use Rattle.award.proofs.demand.demand_within.Goals as goal
 
 pub loop-i-preserved : goal.loop-i-preserved
 loop-i-preserved g c =
-    summing_more c.args.rows.now (λ q. g.Q.Quote.no_worse q c.args.limit) c.loop-i.i c.loop-i.total c.lots-within.result c.index-rows-i.result
-    c.loop-i-test.true c.index-rows-i.is c.lots-within.ensures (omega arith) c.loop-i.invariant
+    summing_more c.args.rows.now (λ q. g.Q.Quote.no_worse q c.args.limit) c.loop-i.i c.loop-i.total c.lots_within.result c.index-rows-i.result
+    c.loop-i-test.true c.index-rows-i.is c.lots_within.ensures (omega arith) c.loop-i.invariant
 
 pub returns : goal.returns
 returns g c = summing_all c.args.rows.now (λ q. g.Q.Quote.no_worse q c.args.limit) c.loop-i.i c.loop-i.total c.loop-i-test.false c.loop-i.invariant

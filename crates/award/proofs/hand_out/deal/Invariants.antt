@@ -6,7 +6,7 @@ use Rattle.award.proofs.hand_out.deal.Given as goal
 
 abbrev pub invariant-loop-i : goal.invariant-loop-i
 invariant-loop-i g l =
-    let no-worse = g.Q.Quote.no_worse in
+    let no_worse = g.Q.Quote.no_worse in
     (l.next ≤ l.i)
-    × Filling l.i l.lots l.initial.lots (rows_by (λ bids. dealt no-worse l.cut bids (drop l.next l.shares)) (drop l.i l.rows))
-    (rows_by (λ bids. dealt no-worse l.cut bids l.shares) l.rows)
+    × Filling l.i l.lots l.initial.lots (rows_by (λ bids. dealt no_worse l.cut bids (drop l.next l.shares)) (drop l.i l.rows))
+    (rows_by (λ bids. dealt no_worse l.cut bids l.shares) l.rows)

@@ -6,8 +6,8 @@ use Rattle.award.specs.Handing.{Divisible}
 use Rattle.award.proofs.Handing.{front_laid, demands_rows}
 use Rattle.award.proofs.hand_out.divide.Goals as goal
 
-pub slice-bounds-ask-end : goal.slice-bounds-ask-end
-slice-bounds-ask-end g c =
+pub slice_bounds-ask-end : goal.slice_bounds-ask-end
+slice_bounds-ask-end g c =
     let few = demands_rows g.Q.Quote.no_worse c.args.cut c.args.rows.now in
     let h : c.gather-count.result ≤ length c.gather-count.new.demands = omega (arith, few, c.gather-count.ensures.count, c.gather-count.auto.demands, c.requires.first) in
     search rules

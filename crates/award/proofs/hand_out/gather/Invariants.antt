@@ -6,6 +6,6 @@ use Rattle.award.proofs.hand_out.gather.Given as goal
 
 abbrev pub invariant-loop-i : goal.invariant-loop-i
 invariant-loop-i g l =
-    let no-worse = g.Q.Quote.no_worse in
+    let no_worse = g.Q.Quote.no_worse in
     (l.count ≤ l.i)
-    × Filling l.count l.demands l.initial.demands (demands_at no-worse l.cut (standing (drop l.i l.rows))) (demands_at no-worse l.cut (standing l.rows))
+    × Filling l.count l.demands l.initial.demands (demands_at no_worse l.cut (standing (drop l.i l.rows))) (demands_at no_worse l.cut (standing l.rows))

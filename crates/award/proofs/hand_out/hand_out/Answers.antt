@@ -8,13 +8,13 @@ use Rattle.award.proofs.hand_out.hand_out.Goals as goal
 
 pub returns-in-Divided : goal.returns-in-Divided
 returns-in-Divided g c =
-    let no-worse = g.Q.Quote.no_worse in
+    let no_worse = g.Q.Quote.no_worse in
     let share = g.R.SharingRule.meaning in
     let rows = c.args.rows.now in
     record {
       lots =
-          handed no-worse rows share g.met.R.SharingRule.fair c.args.limit c.in-Divided.cut c.in-Divided.balance c.args.reckoning
+          handed no_worse rows share g.met.R.SharingRule.fair c.args.limit c.in-Divided.cut c.in-Divided.balance c.args.reckoning
           c.divide.new.shares c.args.shares.now c.deal.new.lots c.divide.new.demands c.args.demands.now
           c.in-Divided.is c.requires.ready c.divide.ensures.shares c.divide.ensures.demands c.deal.ensures;
-      shares = subst (λ (r : Reckoning _). c.divide.new.shares ≡ laid (shares_of no-worse share (standing rows) r) c.args.shares.now) (sym c.in-Divided.is) c.divide.ensures.shares;
+      shares = subst (λ (r : Reckoning _). c.divide.new.shares ≡ laid (shares_of no_worse share (standing rows) r) c.args.shares.now) (sym c.in-Divided.is) c.divide.ensures.shares;
     }

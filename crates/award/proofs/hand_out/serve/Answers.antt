@@ -5,9 +5,9 @@ use Rattle.award.proofs.hand_out.serve.Goals as goal
 
 pub loop-i-preserved : goal.loop-i-preserved
 loop-i-preserved g c =
-    let no-worse = g.Q.Quote.no_worse in
-    serving_more (in_full no-worse c.args.limit) c.args.rows.now c.loop-i.i c.lots-within.result c.loop-i.lots c.args.lots.now (omega arith)
-    (served_more no-worse c.args.rows.now c.loop-i.i c.index-rows-i.result c.loop-i-test.true c.index-rows-i.is c.args.limit c.lots-within.result c.lots-within.ensures)
+    let no_worse = g.Q.Quote.no_worse in
+    serving_more (in_full no_worse c.args.limit) c.args.rows.now c.loop-i.i c.lots_within.result c.loop-i.lots c.args.lots.now (omega arith)
+    (served_more no_worse c.args.rows.now c.loop-i.i c.index-rows-i.result c.loop-i-test.true c.index-rows-i.is c.args.limit c.lots_within.result c.lots_within.ensures)
     c.loop-i.invariant
 
 pub returns : goal.returns

@@ -7,14 +7,14 @@ use Rattle.book.proofs.find.find.Goals as goal
 pub loop-i-init : goal.loop-i-init
 loop-i-init g c = from_all (place_of c.args.number c.args.rows.now)
 
-pub returns-then-stands-as : goal.returns-then-stands-as
-returns-then-stands-as g c =
-    sym (place_here c.args.number c.args.rows.now c.loop-i.i c.index-rows-i.result c.loop-i-test.true c.index-rows-i.is c.if-stands-as.ensures)
+pub returns-then-stands_as : goal.returns-then-stands_as
+returns-then-stands_as g c =
+    sym (place_here c.args.number c.args.rows.now c.loop-i.i c.index-rows-i.result c.loop-i-test.true c.index-rows-i.is c.if-stands_as.ensures)
     ∙ c.loop-i.invariant
 
 pub loop-i-preserved : goal.loop-i-preserved
 loop-i-preserved g c =
-    sym (place_later c.args.number c.args.rows.now c.loop-i.i c.index-rows-i.result c.loop-i-test.true c.index-rows-i.is c.if-stands-as.ensures)
+    sym (place_later c.args.number c.args.rows.now c.loop-i.i c.index-rows-i.result c.loop-i-test.true c.index-rows-i.is c.if-stands_as.ensures)
     ∙ c.loop-i.invariant
 
 pub returns : goal.returns

@@ -5,6 +5,6 @@ use Rattle.cabinet.proofs.act.write_act_with.Goals as goal
 pub returns : goal.returns
 returns c =
     record {
-      written = c.write-print.ensures.written;
-      enough = print_suffices c.args.refusals.now (Act c.args.head c.args.rows) c.args.space.now _ _ c.write-print.ensures.written c.write-print.ensures.enough;
+      written = c.write_print.ensures.written;
+      enough = print_suffices c.args.refusals.now (Act c.args.head c.args.rows) c.args.space.now _ _ c.write_print.ensures.written c.write_print.ensures.enough;
     }

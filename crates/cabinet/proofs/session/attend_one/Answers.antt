@@ -7,11 +7,11 @@ use Rattle.cabinet.proofs.Opening.{seen_some}
 use Rattle.cabinet.proofs.Attending.{answered_refused, book_seen, writes_seen}
 use Rattle.cabinet.proofs.session.attend_one.Goals as goal
 
-pub returns-in-err-answer : goal.returns-in-err-answer
-returns-in-err-answer g c =
+pub returns-in_err-answer : goal.returns-in_err-answer
+returns-in_err-answer g c =
     let r = c.args.reader.now in
-    let seen = seen_some r.passed r.place (seen_by Session r) c.in-Some.message (sym (ap Ok c.in-Some.is) ∙ c.in-ok-message.ensures.result) in
-    let p = err_from_is_err_and c.from-residual-in-err-answer.result c.from-residual-in-err-answer.ensures.1 in
+    let seen = seen_some r.passed r.place (seen_by Session r) c.in-Some.message (sym (ap Ok c.in-Some.is) ∙ c.in_ok-message.ensures.result) in
+    let p = err_from_is_err_and c.from_residual-in_err-answer.result c.from_residual-in_err-answer.ensures.1 in
     let n = g.Quote.Quote.number in
     let q = g.Quote.Quote.read in
     let w = g.Quote.Quote.no_worse in
@@ -23,11 +23,11 @@ returns-in-err-answer g c =
       result =
           p.1
           ∙ answered_refused n q w h one other b r.passed r.place (seen_by Session r) c.in-Some.message seen c.passed-ordinal.result c.place-place.result
-          c.passed-ordinal.ensures c.place-place.ensures c.put-message.result c.in-err-answer.field-0.0 p.0 c.put-message.ensures.result
-          c.in-err-answer.ensures p.2;
-      after = book_seen n q w h one other b r.passed r.place (seen_by Session r) c.in-Some.message seen _ c.put-message.ensures.after;
-      reader = c.read-event.ensures.reader;
-      tables = λ none. c.put-message.ensures.tables
-          (writes_seen n q w h one other b r.passed r.place (seen_by Session r) c.in-Some.message seen c.put-message.result c.put-message.ensures.result none);
-      same = c.put-message.ensures.same;
+          c.passed-ordinal.ensures c.place-place.ensures c.put_message.result c.in_err-answer.field-0.0 p.0 c.put_message.ensures.result
+          c.in_err-answer.ensures p.2;
+      after = book_seen n q w h one other b r.passed r.place (seen_by Session r) c.in-Some.message seen _ c.put_message.ensures.after;
+      reader = c.read_event.ensures.reader;
+      tables = λ none. c.put_message.ensures.tables
+          (writes_seen n q w h one other b r.passed r.place (seen_by Session r) c.in-Some.message seen c.put_message.result c.put_message.ensures.result none);
+      same = c.put_message.ensures.same;
     }

@@ -8,6 +8,6 @@ use Rattle.cabinet.proofs.whole.print.Goals as goal
 pub returns : goal.returns
 returns c =
     record {
-      written = subst (λ b. Writes (print_seen b (reading Opening b)) c.args.space.now c.print-bytes.new.space c.print-bytes.result) c.front.ensures c.print-bytes.ensures.written;
-      enough = c.print-bytes.ensures.enough;
+      written = subst (λ b. Writes (print_seen b (reading Opening b)) c.args.space.now c.print_bytes.new.space c.print_bytes.result) c.front.ensures c.print_bytes.ensures.written;
+      enough = c.print_bytes.ensures.enough;
     }

@@ -7,10 +7,10 @@ use Rattle.print.proofs.lay.put_signed.Goals as goal
 
 pub returns : goal.returns
 returns c =
-    let size = c.unsigned-abs-size.result in
-    let sign = minus_sign c.args.z size c.ranges.z c.if-z-ge0.false c.unsigned-abs-size.ensures.value in
+    let size = c.unsigned_abs-size.result in
+    let sign = minus_sign c.args.z size c.ranges.z c.if-z-ge0.false c.unsigned_abs-size.ensures.value in
     let both =
-    laid_both (signed_decimal c.args.z) (45 ∷ []) (decimal size) sign c.args.at c.args.space.now c.requires c.put-byte-next.result c.put-byte-next.new.space c.put-byte-next.ensures.end
-    c.put-number-2.result c.put-number-2.new.space c.put-byte-next.ensures.after c.put-number-2.ensures.end c.put-number-2.ensures.after
+    laid_both (signed_decimal c.args.z) (45 ∷ []) (decimal size) sign c.args.at c.args.space.now c.requires c.put_byte-next.result c.put_byte-next.new.space c.put_byte-next.ensures.end
+    c.put_number-2.result c.put_number-2.new.space c.put_byte-next.ensures.after c.put_number-2.ensures.end c.put_number-2.ensures.after
     in
     record { end = both.0; after = both.1 }

@@ -5,8 +5,8 @@ use Rattle.print.proofs.Rooms.{past, within, too_short, leaves}
 use Rattle.print.proofs.Texts.{length_item, length_front, texts_all, sum_item, sum_front, sum_all}
 use Rattle.print.proofs.printed.room_after_all.Goals as goal
 
-pub returns-in-err-left : goal.returns-in-err-left
-returns-in-err-left g c =
+pub returns-in_err-left : goal.returns-in_err-left
+returns-in_err-left g c =
     let f = g.T.Printed.text in
     let m = g.T.Printed.most in
     let xs = c.args.items.now in
@@ -15,13 +15,13 @@ returns-in-err-left g c =
     let left = c.loop-item.left in
     let more = length_item f xs i x c.loop-item-test.true c.item-item.is in
     let summed = sum_item m xs i x c.loop-item-test.true c.item-item.is in
-    let short = past (length (f x)) left _ c.room-after.ensures.left c.in-err-left.was in
+    let short = past (length (f x)) left _ c.room_after.ensures.left c.in_err-left.was in
     record {
-      left = too_short (length (texts f xs)) c.args.room _ c.from-residual.ensures (omega (arith, more, short, length_front f xs (i + 1), c.loop-item.invariant.0));
+      left = too_short (length (texts f xs)) c.args.room _ c.from_residual.ensures (omega (arith, more, short, length_front f xs (i + 1), c.loop-item.invariant.0));
       bound = λ h.
           let passed = c.loop-item.invariant.1 h in
           let fits : m x ≤ left = omega (arith, h, passed, summed, sum_front m xs (i + 1), c.loop-item.invariant.0) in
-          omega (arith, short, fits, c.room-after.ensures.bound fits);
+          omega (arith, short, fits, c.room_after.ensures.bound fits);
     }
 
 pub loop-item-preserved : goal.loop-item-preserved
@@ -34,12 +34,12 @@ loop-item-preserved g c =
     let left = c.loop-item.left in
     let more = length_item f xs i x c.loop-item-test.true c.item-item.is in
     let summed = sum_item m xs i x c.loop-item-test.true c.item-item.is in
-    let less = within (length (f x)) left _ c.in-ok-left.left c.room-after.ensures.left c.in-ok-left.was in (
+    let less = within (length (f x)) left _ c.in_ok-left.left c.room_after.ensures.left c.in_ok-left.was in (
       omega (arith, more, less, c.loop-item.invariant.0),
       λ h.
           let passed = c.loop-item.invariant.1 h in
           let fits : m x ≤ left = omega (arith, h, passed, summed, sum_front m xs (i + 1), c.loop-item.invariant.0) in
-          omega (arith, more, summed, passed, c.room-after.ensures.bound fits),
+          omega (arith, more, summed, passed, c.room_after.ensures.bound fits),
     )
 
 pub returns : goal.returns

@@ -18,17 +18,17 @@ pub returns : goal.returns
 returns g c =
     let number = g.Quote.Quote.number in
     let read = g.Quote.Quote.read in
-    let no-worse = g.Quote.Quote.no_worse in
+    let no_worse = g.Quote.Quote.no_worse in
     let share = g.Rule.SharingRule.meaning in
     let rows = c.args.rows.now in
     let calls = c.args.calls.now in
     let notice = c.args.notice.notice in
     let end =
-    midway_all number read no-worse share (view c.open-book.result) calls (view c.loop-exchange.book) c.loop-exchange.exchange-index c.loop-exchange.calls
+    midway_all number read no_worse share (view c.open-book.result) calls (view c.loop-exchange.book) c.loop-exchange.exchange-index c.loop-exchange.calls
     c.loop-exchange.invariant.0 (search rules) in
     let start : view c.open-book.result ≡ opened notice rows = c.open-book.ensures.value in
-    let made : c.loop-exchange.calls ≡ exchanged number read no-worse share (opened notice rows) calls = end.0 ∙ ap (λ s. exchanged number read no-worse share s calls) start in
-    let kept : view c.loop-exchange.book ≡ sheet_after number read no-worse share (opened notice rows) (calls_of calls) =
-    end.1 ∙ ap (λ s. sheet_after number read no-worse share s (calls_of calls)) start in
+    let made : c.loop-exchange.calls ≡ exchanged number read no_worse share (opened notice rows) calls = end.0 ∙ ap (λ s. exchanged number read no_worse share s calls) start in
+    let kept : view c.loop-exchange.book ≡ sheet_after number read no_worse share (opened notice rows) (calls_of calls) =
+    end.1 ∙ ap (λ s. sheet_after number read no_worse share s (calls_of calls)) start in
     let rows_end = ap (λ s. s.rows) kept in
-    run_law number read no-worse share g.met.Quote.Quote.lawful g.met.Rule.SharingRule.fair notice (checked_fits c.args.notice) rows calls _ _ (search rules) made
+    run_law number read no_worse share g.met.Quote.Quote.lawful g.met.Rule.SharingRule.fair notice (checked_fits c.args.notice) rows calls _ _ (search rules) made

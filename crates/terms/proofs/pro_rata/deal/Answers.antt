@@ -11,12 +11,12 @@ loop-i-preserved c =
     let f = first_share c.args.balance c.args.total in
     let ds = c.args.demands.now in
     let i = c.loop-i.i in
-    let start = c.first-share-start.result in
+    let start = c.first_share-start.result in
     let more = c.extra-more.result in
-    let e = dealt_more f c.args.bound c.loop-i.left ds i start more c.loop-i-test.true c.first-share-start.ensures.value c.extra-more.ensures in
-    filling_next i c.share-of.result c.loop-i.shares c.args.shares.now (dealt f c.args.bound c.loop-i.left (drop i ds))
+    let e = dealt_more f c.args.bound c.loop-i.left ds i start more c.loop-i-test.true c.first_share-start.ensures.value c.extra-more.ensures in
+    filling_next i c.share_of.result c.loop-i.shares c.args.shares.now (dealt f c.args.bound c.loop-i.left (drop i ds))
     (dealt f c.args.bound (c.loop-i.left - more) (drop (i + 1) ds)) (dealt f c.args.bound c.args.left ds)
-    (omega arith) (rw c.share-of.ensures e) c.loop-i.invariant
+    (omega arith) (rw c.share_of.ensures e) c.loop-i.invariant
 
 pub returns : goal.returns
 returns c =

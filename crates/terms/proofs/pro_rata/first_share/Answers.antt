@@ -2,8 +2,8 @@ use Rattle.std.proofs.Common.{◌≡◌, arith, rules}
 use Rattle.terms.specs.Fairness.{first_within}
 use Rattle.terms.proofs.pro_rata.first_share.Goals as goal
 
-pub overflow-cast-result : goal.overflow-cast-result
-overflow-cast-result c =
+pub overflow_cast-result : goal.overflow_cast-result
+overflow_cast-result c =
     let h = first_within c.args.balance c.args.total c.args.demand c.requires.covers in
     search rules
 

@@ -8,7 +8,7 @@ use Rattle.terms.proofs.pro_rata.firsts_of.Goals as goal
 pub loop-d-preserved : goal.loop-d-preserved
 loop-d-preserved c =
     let more = sum_by_more (first_share c.args.balance c.args.total) c.args.demands.now c.loop-d.d-index 0 c.loop-d-test.true in
-    let small = c.type-inv.demands c.loop-d.d-index in
+    let small = c.type_inv.demands c.loop-d.d-index in
     (omega arith, omega arith)
 
 pub returns : goal.returns

@@ -7,8 +7,8 @@ use Rattle.terms.proofs.pro_rata.room_below.Goals as goal
 pub loop-d-preserved : goal.loop-d-preserved
 loop-d-preserved c =
     let more = below_more (first_share c.args.balance c.args.total) c.args.bound c.args.demands.now c.loop-d.d-index
-    c.first-share-start.result c.loop-d-test.true c.first-share-start.ensures.value in
-    let small = c.type-inv.demands c.loop-d.d-index in
+    c.first_share-start.result c.loop-d-test.true c.first_share-start.ensures.value in
+    let small = c.type_inv.demands c.loop-d.d-index in
     (omega arith, omega arith)
 
 pub returns : goal.returns

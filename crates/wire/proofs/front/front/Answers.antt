@@ -9,6 +9,6 @@ returns c =
     let call = c.args.call in
     let b = c.args.rest.now in
     let some : 0 < length b = omega arith in
-    let none : verdict (grounds call b) ≡ Ok tt = sym c.judge.ensures ∙ c.in-ok-judge.was in
-    let a = accepted call b c.decode.result c.type-inv.rest some none c.decode.ensures in
+    let none : verdict (grounds call b) ≡ Ok tt = sym c.judge.ensures ∙ c.in_ok-judge.was in
+    let a = accepted call b c.decode.result c.type_inv.rest some none c.decode.ensures in
     record { reply = a.0; fits = a.1 }

@@ -8,7 +8,7 @@ use Rattle.wire.proofs.writer.write.Goals as goal
 pub returns-in-Notice : goal.returns-in-Notice
 returns-in-Notice c =
     let w = c.in-Notice in
-    let m = Notice w.quote-code w.sharing-code w.s0 w.s1 w.s2 w.s3 w.s4 w.s5 w.s6 w.s7 w.offer w.minimum w.placement w.least w.opening w.closing in
+    let m = Notice w.quote_code w.sharing_code w.s0 w.s1 w.s2 w.s3 w.s4 w.s5 w.s6 w.s7 w.offer w.minimum w.placement w.least w.opening w.closing in
     let fits : Fitting m = search rules in
     let bytes = c.notice.ensures in
     let s = sent c.args.message.now m c.notice.result c.args.space.now c.put.new.space c.put.result w.is fits bytes c.put.ensures in

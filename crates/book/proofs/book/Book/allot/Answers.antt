@@ -9,8 +9,8 @@ use Rattle.book.specs.Views.{view}
 use Rattle.book.proofs.Fitting.{fit_set, fit_at}
 use Rattle.book.proofs.book.Book.allot.Goals as goal
 
-pub offset-bounds-self-i : goal.offset-bounds-self-i
-offset-bounds-self-i g c = let lt : c.loop-i.i < length c.args.self.now.rows.now = omega arith in search rules
+pub offset_bounds-self-i : goal.offset_bounds-self-i
+offset_bounds-self-i g c = let lt : c.loop-i.i < length c.args.self.now.rows.now = omega arith in search rules
 
 pub bounds-self-i : goal.bounds-self-i
 bounds-self-i g c = let used = ap (λ (s : Sheet g.row.S-Quote.Denot). s.used) c.loop-i.invariant.0 in omega arith
@@ -18,8 +18,8 @@ bounds-self-i g c = let used = ap (λ (s : Sheet g.row.S-Quote.Denot). s.used) c
 pub bounds-self-i-in-loop-i : goal.bounds-self-i-in-loop-i
 bounds-self-i-in-loop-i g c = let used = ap (λ (s : Sheet g.row.S-Quote.Denot). s.used) c.loop-i.invariant.0 in omega arith
 
-pub invariant-of-self : goal.invariant-of-self
-invariant-of-self g c =
+pub invariant_of-self : goal.invariant_of-self
+invariant_of-self g c =
     let b = c.loop-i.self in
     let used = ap (λ (s : Sheet g.row.S-Quote.Denot). s.used) c.loop-i.invariant.0 in
     let row = get_or b.rows.now c.loop-i.i c.index-self-i.result in

@@ -8,11 +8,11 @@ use Rattle.book.proofs.Finding.{found_below}
 use Rattle.book.proofs.Moving.{moved_last}
 use Rattle.book.proofs.book.Book.change_at.Goals as goal
 
-pub close-gap-requires : goal.close-gap-requires
-close-gap-requires g c = let b = c.args.self.now in found_below c.args.number b.used b.rows.now b.fit c.args.at c.requires.found
+pub close_gap-requires : goal.close_gap-requires
+close_gap-requires g c = let b = c.args.self.now in found_below c.args.number b.used b.rows.now b.fit c.args.at c.requires.found
 
-pub overflow-sub-last : goal.overflow-sub-last
-overflow-sub-last g c =
+pub overflow_sub-last : goal.overflow_sub-last
+overflow_sub-last g c =
     let b = c.args.self.now in
     let below = found_below c.args.number b.used b.rows.now b.fit c.args.at c.requires.found in
     omega arith
@@ -21,14 +21,14 @@ pub put-requires : goal.put-requires
 put-requires g c =
     let old = c.args.self.now in
     let below = found_below c.args.number old.used old.rows.now old.fit c.args.at c.requires.found in
-    let used = ap (λ (s : Sheet g.row.S-Quote.Denot). s.used) c.close-gap.ensures.after in
-    let fit = c.close-gap.new.self.fit in
+    let used = ap (λ (s : Sheet g.row.S-Quote.Denot). s.used) c.close_gap.ensures.after in
+    let fit = c.close_gap.new.self.fit in
     record { place = omega arith; lots = c.requires.lots }
 
-pub invariant-of-self : goal.invariant-of-self
-invariant-of-self g c =
+pub invariant_of-self : goal.invariant_of-self
+invariant_of-self g c =
     let b = c.put.new.self in
-    let moved = ap (λ (s : Sheet g.row.S-Quote.Denot). s.arrivals) c.close-gap.ensures.after in
+    let moved = ap (λ (s : Sheet g.row.S-Quote.Denot). s.arrivals) c.close_gap.ensures.after in
     let written = ap (λ (s : Sheet g.row.S-Quote.Denot). s.arrivals) c.put.ensures.after in
     (b.fit, (b.few, (omega arith, (b.lots, tt))))
 
@@ -37,7 +37,7 @@ returns g c =
     let old = c.args.self.now in
     let row = new_row c.args.number c.args.house c.args.quote c.args.lots in
     let rows = moved_last c.args.number old.used old.rows.now old.fit c.args.at c.requires.found row in
-    let after = c.put.ensures.after ∙ ap (λ (s : Sheet g.row.S-Quote.Denot). on_rows s (set s.rows (old.used - 1) row)) c.close-gap.ensures.after
+    let after = c.put.ensures.after ∙ ap (λ (s : Sheet g.row.S-Quote.Denot). on_rows s (set s.rows (old.used - 1) row)) c.close_gap.ensures.after
     ∙ ap (on_rows (view old)) rows in
     record {
       after = ap (λ (s : Sheet g.row.S-Quote.Denot). record {
@@ -48,5 +48,5 @@ returns g c =
         last = c.args.second;
         rows = s.rows;
       }) after;
-      same = c.put.ensures.same ∙ c.close-gap.ensures.same;
+      same = c.put.ensures.same ∙ c.close_gap.ensures.same;
     }

@@ -8,11 +8,11 @@ use Rattle.book.proofs.Fitting.{fit_set, fit_at}
 use Rattle.book.proofs.Moving.{closing_none, closing_more}
 use Rattle.book.proofs.book.Book.close_gap.Goals as goal
 
-pub offset-bounds-self-k : goal.offset-bounds-self-k
-offset-bounds-self-k g c = let lt : c.loop-k.k + 1 < length c.args.self.now.rows.now = omega arith in search rules
+pub offset_bounds-self-k : goal.offset_bounds-self-k
+offset_bounds-self-k g c = let lt : c.loop-k.k + 1 < length c.args.self.now.rows.now = omega arith in search rules
 
-pub offset-bounds-self-k-in-loop-k : goal.offset-bounds-self-k-in-loop-k
-offset-bounds-self-k-in-loop-k g c = let lt : c.loop-k.k < length c.args.self.now.rows.now = omega arith in search rules
+pub offset_bounds-self-k-in-loop-k : goal.offset_bounds-self-k-in-loop-k
+offset_bounds-self-k-in-loop-k g c = let lt : c.loop-k.k < length c.args.self.now.rows.now = omega arith in search rules
 
 pub bounds-self-k : goal.bounds-self-k
 bounds-self-k g c = let used = ap (λ (s : Sheet g.row.S-Quote.Denot). s.used) c.loop-k.invariant.0 in omega arith
@@ -20,8 +20,8 @@ bounds-self-k g c = let used = ap (λ (s : Sheet g.row.S-Quote.Denot). s.used) c
 pub bounds-self-k-in-loop-k : goal.bounds-self-k-in-loop-k
 bounds-self-k-in-loop-k g c = let used = ap (λ (s : Sheet g.row.S-Quote.Denot). s.used) c.loop-k.invariant.0 in omega arith
 
-pub invariant-of-self : goal.invariant-of-self
-invariant-of-self g c =
+pub invariant_of-self : goal.invariant_of-self
+invariant_of-self g c =
     let b = c.loop-k.self in
     let used = ap (λ (s : Sheet g.row.S-Quote.Denot). s.used) c.loop-k.invariant.0 in
     let next = fit_at b.used b.rows.now (c.loop-k.k + 1) c.index-self-k.result b.lots (omega arith) (omega arith) in

@@ -7,22 +7,22 @@ use Rattle.book.proofs.Fitting.{fit_next}
 use Rattle.book.proofs.Moving.{next_written}
 use Rattle.book.proofs.book.Book.enter.Goals as goal
 
-pub offset-bounds-self-at : goal.offset-bounds-self-at
-offset-bounds-self-at g c = let lt : c.rows-used-at.result < length c.args.self.now.rows.now = omega arith in search rules
+pub offset_bounds-self-at : goal.offset_bounds-self-at
+offset_bounds-self-at g c = let lt : c.rows_used-at.result < length c.args.self.now.rows.now = omega arith in search rules
 
-pub invariant-of-self : goal.invariant-of-self
-invariant-of-self g c =
+pub invariant_of-self : goal.invariant_of-self
+invariant_of-self g c =
     let b = c.args.self.now in
-    (simp length-set (omega arith), (omega arith, (omega arith, (fit_next b.used c.rows-used-at.result b.rows.now _ c.rows-used-at.ensures b.lots c.requires.lots, tt))))
+    (simp length-set (omega arith), (omega arith, (omega arith, (fit_next b.used c.rows_used-at.result b.rows.now _ c.rows_used-at.ensures b.lots c.requires.lots, tt))))
 
 pub returns : goal.returns
 returns g c =
     let b = c.args.self.now in
     let row = λ (n : ℕ). new_row n c.args.house c.args.quote c.args.lots in
-    let rows = ap (λ (n : ℕ). set b.rows.now c.rows-used-at.result (row n)) c.next-number-number.ensures
-    ∙ next_written b.rows.now b.used c.rows-used-at.result (row (b.used + 1)) c.rows-used-at.ensures c.requires.room in
+    let rows = ap (λ (n : ℕ). set b.rows.now c.rows_used-at.result (row n)) c.next_number-number.ensures
+    ∙ next_written b.rows.now b.used c.rows_used-at.result (row (b.used + 1)) c.rows_used-at.ensures c.requires.room in
     record {
-      result = c.next-number-number.ensures;
+      result = c.next_number-number.ensures;
       after = ap (λ (rs : List (Row g.row.S-Quote.Denot)). record {
         notice = b.notice.notice;
         state = b.state;

@@ -8,8 +8,8 @@ returns-in-default g c =
     let b = c.args.self.now in
     none_named c.args.number c.args.house b.used b.rows.now (sym c.in-default.ensures)
 
-pub row-at-row-requires : goal.row-at-row-requires
-row-at-row-requires g c =
+pub row_at-row-requires : goal.row_at-row-requires
+row_at-row-requires g c =
     let b = c.args.self.now in
     found_within c.args.number b.used b.rows.now b.fit c.in-Some.at (sym c.in-Some.ensures)
 
@@ -17,10 +17,10 @@ pub returns-then-row-house : goal.returns-then-row-house
 returns-then-row-house g c =
     let b = c.args.self.now in
     let place = sym c.in-Some.ensures in
-    other_named c.args.number c.args.house b.used b.rows.now b.fit c.in-Some.at place c.row-at-row.result c.row-at-row.ensures c.if-row-house.true
+    other_named c.args.number c.args.house b.used b.rows.now b.fit c.in-Some.at place c.row_at-row.result c.row_at-row.ensures c.if-row-house.true
 
 pub returns : goal.returns
 returns g c =
     let b = c.args.self.now in
     let place = sym c.in-Some.ensures in
-    (own_named c.args.number c.args.house b.used b.rows.now b.fit c.in-Some.at place c.row-at-row.result c.row-at-row.ensures c.if-row-house.false, place)
+    (own_named c.args.number c.args.house b.used b.rows.now b.fit c.in-Some.at place c.row_at-row.result c.row_at-row.ensures c.if-row-house.false, place)

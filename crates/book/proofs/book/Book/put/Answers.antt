@@ -3,10 +3,10 @@ use Rattle.std.proofs.lemmas.List.{length-set}
 use Rattle.book.proofs.Fitting.{fit_set}
 use Rattle.book.proofs.book.Book.put.Goals as goal
 
-pub offset-bounds-self-at : goal.offset-bounds-self-at
-offset-bounds-self-at g c = let lt : c.args.at < length c.args.self.now.rows.now = c.requires.place in search rules
+pub offset_bounds-self-at : goal.offset_bounds-self-at
+offset_bounds-self-at g c = let lt : c.args.at < length c.args.self.now.rows.now = c.requires.place in search rules
 
-pub invariant-of-self : goal.invariant-of-self
-invariant-of-self g c =
+pub invariant_of-self : goal.invariant_of-self
+invariant_of-self g c =
     let b = c.args.self.now in
     (simp length-set b.fit, (b.few, (b.places, (fit_set b.used b.rows.now c.args.at c.args.row b.lots c.requires.lots, tt))))

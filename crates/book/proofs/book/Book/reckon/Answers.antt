@@ -7,14 +7,14 @@ use Rattle.book.proofs.book.Book.reckon.Goals as goal
 pub returns : goal.returns
 returns g c =
     let b = c.args.self.now in
-    let told = c.in-ok-cut.ensures in
+    let told = c.in_ok-cut.ensures in
     let better = g.row.S-Quote-Quote.no_worse in
     let share = g.S.Rule.SharingRule.meaning in
     let given = award-terms c.conditions.result in
     let terms = terms_of b.notice.notice in
     record {
       answer = reckoned_ok better share given terms c.conditions.ensures c.args.limit b.rows.now b.used b.fit
-          (length c.args.demands.now) (length c.args.shares.now) c.in-ok-cut.cut told.answer;
+          (length c.args.demands.now) (length c.args.shares.now) c.in_ok-cut.cut told.answer;
       lots = told.lots ∙ lots_in_use better share given terms c.conditions.ensures c.args.limit b.rows.now b.used b.fit c.args.demands.now;
       shares = told.shares ∙ shares_in_use better share given terms c.conditions.ensures c.args.limit b.rows.now b.used b.fit c.args.shares.now;
     }

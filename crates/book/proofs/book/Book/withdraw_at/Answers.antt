@@ -7,8 +7,8 @@ use Rattle.book.proofs.Finding.{found_below, found_within}
 use Rattle.book.proofs.Moving.{marked}
 use Rattle.book.proofs.book.Book.withdraw_at.Goals as goal
 
-pub offset-bounds-self-at : goal.offset-bounds-self-at
-offset-bounds-self-at g c =
+pub offset_bounds-self-at : goal.offset_bounds-self-at
+offset_bounds-self-at g c =
     let b = c.args.self.now in
     let lt : c.args.at < length b.rows.now = found_within c.args.number b.used b.rows.now b.fit c.args.at c.requires in
     search rules
@@ -19,8 +19,8 @@ bounds-self-at g c = let b = c.args.self.now in found_within c.args.number b.use
 pub bounds-self-at-2 : goal.bounds-self-at-2
 bounds-self-at-2 g c = let b = c.args.self.now in found_within c.args.number b.used b.rows.now b.fit c.args.at c.requires
 
-pub invariant-of-self : goal.invariant-of-self
-invariant-of-self g c =
+pub invariant_of-self : goal.invariant_of-self
+invariant_of-self g c =
     let b = c.args.self.now in
     let below = found_below c.args.number b.used b.rows.now b.fit c.args.at c.requires in
     let row = get_or b.rows.now c.args.at c.index-self-at.result in

@@ -6,6 +6,6 @@ use Rattle.print.proofs.parts.RefusalPrinted.room_after.Goals as goal
 pub returns : goal.returns
 returns c =
     record {
-      left = c.room-after-all.ensures.left ∙ ap (λ t. leftover (length t) c.args.room) c.refusal_line.ensures.text;
+      left = c.room_after_all.ensures.left ∙ ap (λ t. leftover (length t) c.args.room) c.refusal_line.ensures.text;
       bound = λ _. refusal_bound c.args.self.now c.refusal_line.ensures.fits;
     }

@@ -4,16 +4,16 @@ use Rattle.std.proofs.lemmas.List.{length-append}
 use Rattle.print.proofs.Rooms.{past, within, too_short, after_first}
 use Rattle.print.proofs.printed.ThenPrinted.room_after.Goals as goal
 
-pub returns-in-err-left : goal.returns-in-err-left
-returns-in-err-left g c =
+pub returns-in_err-left : goal.returns-in_err-left
+returns-in_err-left g c =
     let s = c.args.self.now in
     let t = g.A.Printed.text s.0 in
     let u = g.B.Printed.text s.1 in
-    let short = past (length t) c.args.room _ c.room-after.ensures.left c.in-err-left.was in
+    let short = past (length t) c.args.room _ c.room_after.ensures.left c.in_err-left.was in
     record {
-      left = too_short (length (t ++ u)) c.args.room _ c.from-residual.ensures (omega (arith, short, length-append t u));
+      left = too_short (length (t ++ u)) c.args.room _ c.from_residual.ensures (omega (arith, short, length-append t u));
       bound = λ h.
-          let first = c.room-after.ensures.bound (omega (arith, h)) in
+          let first = c.room_after.ensures.bound (omega (arith, h)) in
           omega (arith, h, first, short);
     }
 
@@ -22,12 +22,12 @@ returns g c =
     let s = c.args.self.now in
     let t = g.A.Printed.text s.0 in
     let u = g.B.Printed.text s.1 in
-    let left = c.in-ok-left.left in
-    let fits = within (length t) c.args.room _ left c.room-after.ensures.left c.in-ok-left.was in
+    let left = c.in_ok-left.left in
+    let fits = within (length t) c.args.room _ left c.room_after.ensures.left c.in_ok-left.was in
     record {
-      left = after_first t u c.args.room left _ fits c.room-after-2.ensures.left;
+      left = after_first t u c.args.room left _ fits c.room_after-2.ensures.left;
       bound = λ h.
-          let first = c.room-after.ensures.bound (omega (arith, h)) in
-          let second = c.room-after-2.ensures.bound (omega (arith, h, first, fits)) in
+          let first = c.room_after.ensures.bound (omega (arith, h)) in
+          let second = c.room_after-2.ensures.bound (omega (arith, h, first, fits)) in
           omega (arith, first, second, length-append t u);
     }
