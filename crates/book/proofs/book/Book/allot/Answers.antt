@@ -24,7 +24,7 @@ invariant_of-self g c =
     let used = ap (λ (s : Sheet g.row.S-Quote.Denot). s.used) c.loop-i.invariant.0 in
     let row = get_or b.rows.now c.loop-i.i c.index-self-i.result in
     let fits = fit_at b.used b.rows.now c.loop-i.i c.index-self-i.result b.lots (omega arith) (omega arith) in
-    (simp length-set b.fit, (b.few, (b.places, (fit_set b.used b.rows.now c.loop-i.i (with_lots (get_or c.args.lots.now c.loop-i.i 0) row) b.lots fits, tt))))
+    record { fit = simp length-set b.fit; few = b.few; places = b.places; lots = fit_set b.used b.rows.now c.loop-i.i (with_lots (get_or c.args.lots.now c.loop-i.i 0) row) b.lots fits }
 
 pub loop-i-init : goal.loop-i-init
 loop-i-init g c =

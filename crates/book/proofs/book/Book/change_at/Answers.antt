@@ -30,7 +30,7 @@ invariant_of-self g c =
     let b = c.put.new.self in
     let moved = ap (λ (s : Sheet g.row.S-Quote.Denot). s.arrivals) c.close_gap.ensures.after in
     let written = ap (λ (s : Sheet g.row.S-Quote.Denot). s.arrivals) c.put.ensures.after in
-    (b.fit, (b.few, (omega arith, (b.lots, tt))))
+    record { fit = b.fit; few = b.few; places = omega arith; lots = b.lots }
 
 pub returns : goal.returns
 returns g c =

@@ -25,7 +25,7 @@ invariant_of-self g c =
     let b = c.loop-k.self in
     let used = ap (λ (s : Sheet g.row.S-Quote.Denot). s.used) c.loop-k.invariant.0 in
     let next = fit_at b.used b.rows.now (c.loop-k.k + 1) c.index-self-k.result b.lots (omega arith) (omega arith) in
-    (simp length-set b.fit, (b.few, (b.places, (fit_set b.used b.rows.now c.loop-k.k _ b.lots next, tt))))
+    record { fit = simp length-set b.fit; few = b.few; places = b.places; lots = fit_set b.used b.rows.now c.loop-k.k _ b.lots next }
 
 pub loop-k-init : goal.loop-k-init
 loop-k-init g c =

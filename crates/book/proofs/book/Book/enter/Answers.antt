@@ -13,7 +13,7 @@ offset_bounds-self-at g c = let lt : c.rows_used-at.result < length c.args.self.
 pub invariant_of-self : goal.invariant_of-self
 invariant_of-self g c =
     let b = c.args.self.now in
-    (simp length-set (omega arith), (omega arith, (omega arith, (fit_next b.used c.rows_used-at.result b.rows.now _ c.rows_used-at.ensures b.lots c.requires.lots, tt))))
+    record { fit = simp length-set (omega arith); few = omega arith; places = omega arith; lots = fit_next b.used c.rows_used-at.result b.rows.now _ c.rows_used-at.ensures b.lots c.requires.lots }
 
 pub returns : goal.returns
 returns g c =

@@ -3,8 +3,8 @@ use Rattle.book.proofs.Finding.{found_within}
 use Rattle.book.proofs.Naming.{none_named, other_named, own_named}
 use Rattle.book.proofs.book.Book.judge_bid.Goals as goal
 
-pub returns-in-default : goal.returns-in-default
-returns-in-default g c =
+pub returns-in_default : goal.returns-in_default
+returns-in_default g c =
     let b = c.args.self.now in
     none_named c.args.number c.args.house b.used b.rows.now (sym c.in-default.ensures)
 

@@ -9,4 +9,4 @@ offset_bounds-self-at g c = let lt : c.args.at < length c.args.self.now.rows.now
 pub invariant_of-self : goal.invariant_of-self
 invariant_of-self g c =
     let b = c.args.self.now in
-    (simp length-set b.fit, (b.few, (b.places, (fit_set b.used b.rows.now c.args.at c.args.row b.lots c.requires.lots, tt))))
+    record { fit = simp length-set b.fit; few = b.few; places = b.places; lots = fit_set b.used b.rows.now c.args.at c.args.row b.lots c.requires.lots }

@@ -25,7 +25,7 @@ invariant_of-self g c =
     let below = found_below c.args.number b.used b.rows.now b.fit c.args.at c.requires in
     let row = get_or b.rows.now c.args.at c.index-self-at.result in
     let fits = fit_at b.used b.rows.now c.args.at c.index-self-at.result b.lots below (omega arith) in
-    (simp length-set b.fit, (b.few, (b.places, (fit_set b.used b.rows.now c.args.at (withdrawn_row row) b.lots fits, tt))))
+    record { fit = simp length-set b.fit; few = b.few; places = b.places; lots = fit_set b.used b.rows.now c.args.at (withdrawn_row row) b.lots fits }
 
 pub returns : goal.returns
 returns g c =
