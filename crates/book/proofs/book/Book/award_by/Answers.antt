@@ -14,7 +14,7 @@ use Rattle.book.proofs.book.Book.award_by.Goals as goal
 pub returns : goal.returns
 returns g c =
     let b = c.args.self.now in
-    let q = g.row.S-Quote-Quote in
+    let q = g.S.Quote.Quote in
     let share = g.S.Rule.SharingRule.meaning in
     let limit = c.in_ok-limit.limit in
     let read = quoted_ok (q.read c.args.quote) limit (rw (to_z-of_z w32 c.args.quote c.ranges.quote) at c.in_ok-limit.ensures) in

@@ -6,7 +6,7 @@ use Rattle.book.proofs.book.Book.judge_bid.Goals as goal
 pub returns-in_default : goal.returns-in_default
 returns-in_default g c =
     let b = c.args.self.now in
-    none_named c.args.number c.args.house b.used b.rows.now (sym c.in-default.ensures)
+    none_named c.args.number c.args.house b.used b.rows.now (sym c.in_default.ensures)
 
 pub row_at-row-requires : goal.row_at-row-requires
 row_at-row-requires g c =

@@ -8,7 +8,7 @@ pub returns : goal.returns
 returns g c =
     let b = c.args.self.now in
     let told = c.in_ok-cut.ensures in
-    let better = g.row.S-Quote-Quote.no_worse in
+    let better = g.S.Quote.Quote.no_worse in
     let share = g.S.Rule.SharingRule.meaning in
     let given = award-terms c.conditions.result in
     let terms = terms_of b.notice.notice in
