@@ -36,7 +36,7 @@ fn outcome_in(told: Result<Outcome, BookFault>) -> Outcome
 
 // The act's row of a number.
 fn act_row<S: Sale>(book: &Book<'_, S>, number: u32) -> Option<ActRow>
-    ensures { as_list result ≡ one_row Quote-as-Quote.number Quote-as-Quote.read Quote-as-Quote.no_worse (view book.now) number (row_of number (in_use (view book.now))) }
+    ensures { as_list result ≡ one_row S.Quote.Quote.number S.Quote.Quote.read S.Quote.Quote.no_worse (view book.now) number (row_of number (in_use (view book.now))) }
 {
     let Some(row) = book.row(number) else {
         return None;
@@ -54,7 +54,7 @@ fn act_row<S: Sale>(book: &Book<'_, S>, number: u32) -> Option<ActRow>
 
 // What became of the offer.
 fn award_of<S: Sale>(book: &Book<'_, S>) -> Award
-    ensures { result ≡ award_by Quote-as-Quote.number Quote-as-Quote.read Quote-as-Quote.no_worse (view book.now) (sheet_cut Quote-as-Quote.read (view book.now)) }
+    ensures { result ≡ award_by S.Quote.Quote.number S.Quote.Quote.read S.Quote.Quote.no_worse (view book.now) (sheet_cut S.Quote.Quote.read (view book.now)) }
 {
     match book.cut_off() {
         Some(cut) => Award::Cut {
@@ -70,7 +70,7 @@ fn award_of<S: Sale>(book: &Book<'_, S>) -> Award
 fn fill_rows<S: Sale>(book: &Book<'_, S>, rows: &mut [ActRow]) -> usize
     requires { (view book.now).used ≤ length rows.old }
     ensures few { result ≤ (view book.now).used }
-    ensures front { take result rows.new ≡ act_rows Quote-as-Quote.number Quote-as-Quote.read Quote-as-Quote.no_worse (view book.now) }
+    ensures front { take result rows.new ≡ act_rows S.Quote.Quote.number S.Quote.Quote.read S.Quote.Quote.no_worse (view book.now) }
 {
     let mut count = 0;
     for passed in 0..book.bids_entered() {
@@ -111,8 +111,8 @@ pub(crate) fn write_with<S: Sale>(
     book: &Book<'_, S>,
     space: &mut [u8],
 ) -> Result<usize, WriteFault>
-    ensures written { Writes (texts refusal_line refusals.now ++ act_print Quote-as-Quote.number Quote-as-Quote.read Quote-as-Quote.no_worse Quote-as-Worded.word (view book.now)) space.old space.new result }
-    ensures enough { length refusals.now ≤ 8_192 → length Quote-as-Worded.word ≤ 8 → Suffices (length space.old) result }
+    ensures written { Writes (texts refusal_line refusals.now ++ act_print S.Quote.Quote.number S.Quote.Quote.read S.Quote.Quote.no_worse S.Quote.Worded.word (view book.now)) space.old space.new result }
+    ensures enough { length refusals.now ≤ 8_192 → length S.Quote.Worded.word ≤ 8 → Suffices (length space.old) result }
 {
     if !book.is_decided() {
         return write_print(refusals, no_act(refusals), space);
@@ -139,7 +139,7 @@ pub(crate) fn no_act(_refusals: &[Refusal]) -> Ending<'_>
 // Writes what a book tells at the front of the space: its act, or that there is none. The count of the bytes is told, and the rest of the space is left; a space that is
 // too short is left as it was.
 pub fn write_book<S: Sale>(book: &Book<'_, S>, space: &mut [u8]) -> Result<usize, WriteFault>
-    ensures { Writes (act_print Quote-as-Quote.number Quote-as-Quote.read Quote-as-Quote.no_worse Quote-as-Worded.word (view book.now)) space.old space.new result }
+    ensures { Writes (act_print S.Quote.Quote.number S.Quote.Quote.read S.Quote.Quote.no_worse S.Quote.Worded.word (view book.now)) space.old space.new result }
 {
     write_with(&[], book, space)
 }

@@ -69,8 +69,8 @@ pub(crate) fn attend<S: Sale>(
 ) -> usize
     requires { 8_192 ≤ length log.old }
     ensures few { result ≤ 8_192 }
-    ensures refusals { take result log.new ≡ refusals_from Quote-as-Quote.number Quote-as-Quote.read Quote-as-Quote.no_worse Rule-as-SharingRule.meaning (length demands.old) (length shares.old) reader.old.bytes.now 8_192 (view book.old) reader.old.passed reader.old.place }
-    ensures after { view book.new ≡ book_from Quote-as-Quote.number Quote-as-Quote.read Quote-as-Quote.no_worse Rule-as-SharingRule.meaning (length demands.old) (length shares.old) reader.old.bytes.now 8_192 (view book.old) reader.old.passed reader.old.place }
+    ensures refusals { take result log.new ≡ refusals_from S.Quote.Quote.number S.Quote.Quote.read S.Quote.Quote.no_worse S.Rule.SharingRule.meaning (length demands.old) (length shares.old) reader.old.bytes.now 8_192 (view book.old) reader.old.passed reader.old.place }
+    ensures after { view book.new ≡ book_from S.Quote.Quote.number S.Quote.Quote.read S.Quote.Quote.no_worse S.Rule.SharingRule.meaning (length demands.old) (length shares.old) reader.old.bytes.now 8_192 (view book.old) reader.old.passed reader.old.place }
     ensures same { book.new.rows.ghost_name ≡ book.old.rows.ghost_name }
 {
     let mut used = 0;

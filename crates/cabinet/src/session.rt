@@ -82,8 +82,8 @@ fn put_message<S: Sale>(
     demands: &mut [u32],
     shares: &mut [u32],
 ) -> Result<u32, BookFault>
-    ensures result { result ≡ (put Quote-as-Quote.number Quote-as-Quote.read Quote-as-Quote.no_worse Rule-as-SharingRule.meaning (length demands.old) (length shares.old) (view book.old) (event_of message.now)).1 }
-    ensures after { view book.new ≡ (put Quote-as-Quote.number Quote-as-Quote.read Quote-as-Quote.no_worse Rule-as-SharingRule.meaning (length demands.old) (length shares.old) (view book.old) (event_of message.now)).0 }
+    ensures result { result ≡ (put S.Quote.Quote.number S.Quote.Quote.read S.Quote.Quote.no_worse S.Rule.SharingRule.meaning (length demands.old) (length shares.old) (view book.old) (event_of message.now)).1 }
+    ensures after { view book.new ≡ (put S.Quote.Quote.number S.Quote.Quote.read S.Quote.Quote.no_worse S.Rule.SharingRule.meaning (length demands.old) (length shares.old) (view book.old) (event_of message.now)).0 }
     ensures tables { message_writes message.now result ≡ false → (demands.new ≡ demands.old) × (shares.new ≡ shares.old) }
     ensures same { book.new.rows.ghost_name ≡ book.old.rows.ghost_name }
 {
@@ -101,10 +101,10 @@ pub fn attend_one<S: Sale>(
     demands: &mut [u32],
     shares: &mut [u32],
 ) -> Result<Option<u32>, SessionFault>
-    ensures result { result ≡ answer_by Quote-as-Quote.number Quote-as-Quote.read Quote-as-Quote.no_worse Rule-as-SharingRule.meaning (length demands.old) (length shares.old) (view book.old) reader.old.passed reader.old.place (seen_by Session reader.old) }
-    ensures after { view book.new ≡ book_by Quote-as-Quote.number Quote-as-Quote.read Quote-as-Quote.no_worse Rule-as-SharingRule.meaning (length demands.old) (length shares.old) (view book.old) (seen_by Session reader.old) }
+    ensures result { result ≡ answer_by S.Quote.Quote.number S.Quote.Quote.read S.Quote.Quote.no_worse S.Rule.SharingRule.meaning (length demands.old) (length shares.old) (view book.old) reader.old.passed reader.old.place (seen_by Session reader.old) }
+    ensures after { view book.new ≡ book_by S.Quote.Quote.number S.Quote.Quote.read S.Quote.Quote.no_worse S.Rule.SharingRule.meaning (length demands.old) (length shares.old) (view book.old) (seen_by Session reader.old) }
     ensures reader { Passes Session reader.old reader.new }
-    ensures tables { session_writes Quote-as-Quote.number Quote-as-Quote.read Quote-as-Quote.no_worse Rule-as-SharingRule.meaning (length demands.old) (length shares.old) (view book.old) (seen_by Session reader.old) ≡ false → (demands.new ≡ demands.old) × (shares.new ≡ shares.old) }
+    ensures tables { session_writes S.Quote.Quote.number S.Quote.Quote.read S.Quote.Quote.no_worse S.Rule.SharingRule.meaning (length demands.old) (length shares.old) (view book.old) (seen_by Session reader.old) ≡ false → (demands.new ≡ demands.old) × (shares.new ≡ shares.old) }
     ensures same { book.new.rows.ghost_name ≡ book.old.rows.ghost_name }
 {
     let ordinal = reader.passed();

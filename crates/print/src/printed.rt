@@ -29,8 +29,8 @@ pub(crate) trait Printed: Sized {
 
 // Writes the text at the front of the space and tells its count; a space that is too short is left as it was.
 pub(crate) fn write<T: Printed>(item: &T, space: &mut [u8]) -> Result<usize, WriteFault>
-    ensures written { Writes (text item.now) space.old space.new result }
-    ensures bound { AtMost (most item.now) (length space.old) (text item.now) }
+    ensures written { Writes (T.Printed.text item.now) space.old space.new result }
+    ensures bound { AtMost (T.Printed.most item.now) (length space.old) (T.Printed.text item.now) }
 {
     match item.room_after(space.len()) {
         Some(_) => Ok(item.put(space, 0)),
@@ -40,8 +40,8 @@ pub(crate) fn write<T: Printed>(item: &T, space: &mut [u8]) -> Result<usize, Wri
 
 // What the texts of all items leave of a room; nothing where they do not fit.
 pub(crate) fn room_after_all<T: Printed>(items: &[T], room: usize) -> Option<usize>
-    ensures left { result ≡ leftover (length (texts text items.now)) room }
-    ensures bound { AtMost (sum_by most items.now) room (texts text items.now) }
+    ensures left { result ≡ leftover (length (texts T.Printed.text items.now)) room }
+    ensures bound { AtMost (sum_by T.Printed.most items.now) room (texts T.Printed.text items.now) }
 {
     let mut left = room;
     for item in items {
@@ -52,9 +52,9 @@ pub(crate) fn room_after_all<T: Printed>(items: &[T], room: usize) -> Option<usi
 
 // Lays the texts of all items from `start` on; tells the place after them.
 pub(crate) fn put_all<T: Printed>(items: &[T], space: &mut [u8], start: usize) -> usize
-    requires { start + length (texts text items.now) ≤ length space.old }
-    ensures end { result ≡ start + length (texts text items.now) }
-    ensures after { space.new ≡ laid start (texts text items.now) space.old }
+    requires { start + length (texts T.Printed.text items.now) ≤ length space.old }
+    ensures end { result ≡ start + length (texts T.Printed.text items.now) }
+    ensures after { space.new ≡ laid start (texts T.Printed.text items.now) space.old }
 {
     let mut at = start;
     for item in items {

@@ -64,8 +64,8 @@ fn put<S: Sale>(
     demands: &mut [u32; MOST_BIDS],
     shares: &mut [u32; MOST_BIDS],
 ) -> Answer<S::Quote>
-    ensures answer { result ≡ sheet_answer S.Quote.Quote.number S.Quote.Quote.read S.Quote.Quote.no_worse Rule-as-SharingRule.meaning (view book.old) (Putting event one other) }
-    ensures after { view book.new ≡ sheet_with S.Quote.Quote.number S.Quote.Quote.read S.Quote.Quote.no_worse Rule-as-SharingRule.meaning (view book.old) (Putting event one other) }
+    ensures answer { result ≡ sheet_answer S.Quote.Quote.number S.Quote.Quote.read S.Quote.Quote.no_worse S.Rule.SharingRule.meaning (view book.old) (Putting event one other) }
+    ensures after { view book.new ≡ sheet_with S.Quote.Quote.number S.Quote.Quote.read S.Quote.Quote.no_worse S.Rule.SharingRule.meaning (view book.old) (Putting event one other) }
     ensures same { book.new.rows.ghost_name ≡ book.old.rows.ghost_name }
 {
     put_answer(book.take(event, cut(demands, one), cut(shares, other)))
@@ -78,8 +78,8 @@ fn make<S: Sale>(
     demands: &mut [u32; MOST_BIDS],
     shares: &mut [u32; MOST_BIDS],
 ) -> Answer<S::Quote>
-    ensures answer { result ≡ sheet_answer S.Quote.Quote.number S.Quote.Quote.read S.Quote.Quote.no_worse Rule-as-SharingRule.meaning (view book.old) call }
-    ensures after { view book.new ≡ sheet_with S.Quote.Quote.number S.Quote.Quote.read S.Quote.Quote.no_worse Rule-as-SharingRule.meaning (view book.old) call }
+    ensures answer { result ≡ sheet_answer S.Quote.Quote.number S.Quote.Quote.read S.Quote.Quote.no_worse S.Rule.SharingRule.meaning (view book.old) call }
+    ensures after { view book.new ≡ sheet_with S.Quote.Quote.number S.Quote.Quote.read S.Quote.Quote.no_worse S.Rule.SharingRule.meaning (view book.old) call }
     ensures same { book.new.rows.ghost_name ≡ book.old.rows.ghost_name }
 {
     match call {
@@ -103,8 +103,8 @@ fn fill<S: Sale>(
     demands: &mut [u32; MOST_BIDS],
     shares: &mut [u32; MOST_BIDS],
 )
-    ensures answer { exchange.new ≡ exchange_by S.Quote.Quote.number S.Quote.Quote.read S.Quote.Quote.no_worse Rule-as-SharingRule.meaning (view book.old) exchange.old }
-    ensures after { view book.new ≡ sheet_with S.Quote.Quote.number S.Quote.Quote.read S.Quote.Quote.no_worse Rule-as-SharingRule.meaning (view book.old) exchange.old.call }
+    ensures answer { exchange.new ≡ exchange_by S.Quote.Quote.number S.Quote.Quote.read S.Quote.Quote.no_worse S.Rule.SharingRule.meaning (view book.old) exchange.old }
+    ensures after { view book.new ≡ sheet_with S.Quote.Quote.number S.Quote.Quote.read S.Quote.Quote.no_worse S.Rule.SharingRule.meaning (view book.old) exchange.old.call }
     ensures same { book.new.rows.ghost_name ≡ book.old.rows.ghost_name }
 {
     exchange.answer = make(book, exchange.call, demands, shares);
@@ -116,7 +116,7 @@ pub fn run<S: Sale>(
     rows: &mut [Row<S::Quote>],
     calls: &mut [Exchange<S::Quote>],
 )
-    ensures { RunLaw S.Quote.Quote.number S.Quote.Quote.read S.Quote.Quote.no_worse Rule-as-SharingRule.meaning notice.notice rows.old calls.old rows.new calls.new }
+    ensures { RunLaw S.Quote.Quote.number S.Quote.Quote.read S.Quote.Quote.no_worse S.Rule.SharingRule.meaning notice.notice rows.old calls.old rows.new calls.new }
 {
     let mut book: Book<'_, S> = Book::open(notice, rows);
     let mut demands = [0; MOST_BIDS];

@@ -10,17 +10,17 @@ loop-turn-preserved g c =
     let b = view c.loop-turn.book in
     let a = c.attend_one-answer.result in
     let left : 8_192 - c.loop-turn.turn ≡ suc (8_192 - (c.loop-turn.turn + 1)) = omega (arith, c.loop-turn-test.true) in
-    let is = answer_here g.Quote.Quote.number g.Quote.Quote.read g.Quote.Quote.no_worse g.Rule.SharingRule.meaning (length c.args.demands.now) (length c.loop-turn.demands) (length c.args.shares.now) (length c.loop-turn.shares) c.args.reader.now.bytes.now c.loop-turn.reader.bytes.now c.loop-turn.auto.demands c.loop-turn.auto.shares c.loop-turn.invariant.3 (view c.loop-turn.book) c.loop-turn.reader.place r.passed a c.attend_one-answer.ensures.result in
-    let book = book_here g.Quote.Quote.number g.Quote.Quote.read g.Quote.Quote.no_worse g.Rule.SharingRule.meaning (length c.args.demands.now) (length c.loop-turn.demands) (length c.args.shares.now) (length c.loop-turn.shares) c.args.reader.now.bytes.now c.loop-turn.reader.bytes.now c.loop-turn.auto.demands c.loop-turn.auto.shares c.loop-turn.invariant.3 (view c.loop-turn.book) c.loop-turn.reader.place (view c.attend_one-answer.new.book) c.attend_one-answer.ensures.after in
+    let is = answer_here g.S.Quote.Quote.number g.S.Quote.Quote.read g.S.Quote.Quote.no_worse g.S.Rule.SharingRule.meaning (length c.args.demands.now) (length c.loop-turn.demands) (length c.args.shares.now) (length c.loop-turn.shares) c.args.reader.now.bytes.now c.loop-turn.reader.bytes.now c.loop-turn.auto.demands c.loop-turn.auto.shares c.loop-turn.invariant.3 (view c.loop-turn.book) c.loop-turn.reader.place r.passed a c.attend_one-answer.ensures.result in
+    let book = book_here g.S.Quote.Quote.number g.S.Quote.Quote.read g.S.Quote.Quote.no_worse g.S.Rule.SharingRule.meaning (length c.args.demands.now) (length c.loop-turn.demands) (length c.args.shares.now) (length c.loop-turn.shares) c.args.reader.now.bytes.now c.loop-turn.reader.bytes.now c.loop-turn.auto.demands c.loop-turn.auto.shares c.loop-turn.invariant.3 (view c.loop-turn.book) c.loop-turn.reader.place (view c.attend_one-answer.new.book) c.attend_one-answer.ensures.after in
     let front = take c.loop-turn.used c.loop-turn.log in
     let longer = take c.append-used.result c.append-used.new.table in
     let told = c.append-used.ensures.front ∙ ap (λ t. front ++ t) c.refusal_in.ensures in
     let on = c.if-not-goes_on.ensures in
-    let passed = passed_here g.Quote.Quote.number g.Quote.Quote.read g.Quote.Quote.no_worse g.Rule.SharingRule.meaning (length c.args.demands.now) (length c.loop-turn.demands) (length c.args.shares.now) (length c.loop-turn.shares) c.args.reader.now.bytes.now c.loop-turn.reader.bytes.now c.loop-turn.auto.demands c.loop-turn.auto.shares c.loop-turn.invariant.3 (view c.loop-turn.book) c.loop-turn.reader.place r.passed c.attend_one-answer.new.reader.passed c.attend_one-answer.ensures.reader.passed in
-    let place = place_here g.Quote.Quote.number g.Quote.Quote.read g.Quote.Quote.no_worse g.Rule.SharingRule.meaning (length c.args.demands.now) (length c.loop-turn.demands) (length c.args.shares.now) (length c.loop-turn.shares) c.args.reader.now.bytes.now c.loop-turn.reader.bytes.now c.loop-turn.auto.demands c.loop-turn.auto.shares c.loop-turn.invariant.3 (view c.loop-turn.book) c.loop-turn.reader.place c.attend_one-answer.new.reader.place c.attend_one-answer.ensures.reader.place in (
+    let passed = passed_here g.S.Quote.Quote.number g.S.Quote.Quote.read g.S.Quote.Quote.no_worse g.S.Rule.SharingRule.meaning (length c.args.demands.now) (length c.loop-turn.demands) (length c.args.shares.now) (length c.loop-turn.shares) c.args.reader.now.bytes.now c.loop-turn.reader.bytes.now c.loop-turn.auto.demands c.loop-turn.auto.shares c.loop-turn.invariant.3 (view c.loop-turn.book) c.loop-turn.reader.place r.passed c.attend_one-answer.new.reader.passed c.attend_one-answer.ensures.reader.passed in
+    let place = place_here g.S.Quote.Quote.number g.S.Quote.Quote.read g.S.Quote.Quote.no_worse g.S.Rule.SharingRule.meaning (length c.args.demands.now) (length c.loop-turn.demands) (length c.args.shares.now) (length c.loop-turn.shares) c.args.reader.now.bytes.now c.loop-turn.reader.bytes.now c.loop-turn.auto.demands c.loop-turn.auto.shares c.loop-turn.invariant.3 (view c.loop-turn.book) c.loop-turn.reader.place c.attend_one-answer.new.reader.place c.attend_one-answer.ensures.reader.place in (
       omega (arith, one_at_most c.refusal_in.result, c.append-used.ensures.count, c.loop-turn.invariant.0),
-      refusals_more g.Quote.Quote.number g.Quote.Quote.read g.Quote.Quote.no_worse g.Rule.SharingRule.meaning (length c.args.demands.now) (length c.args.shares.now) c.args.reader.now.bytes.now b r.passed r.place a is _ _ _ _ _ front longer _ left (sym on) book passed place told c.loop-turn.invariant.1,
-      book_more g.Quote.Quote.number g.Quote.Quote.read g.Quote.Quote.no_worse g.Rule.SharingRule.meaning (length c.args.demands.now) (length c.args.shares.now) c.args.reader.now.bytes.now b r.passed r.place a is _ _ _ _ _ _ left (sym on) book passed place c.loop-turn.invariant.2,
+      refusals_more g.S.Quote.Quote.number g.S.Quote.Quote.read g.S.Quote.Quote.no_worse g.S.Rule.SharingRule.meaning (length c.args.demands.now) (length c.args.shares.now) c.args.reader.now.bytes.now b r.passed r.place a is _ _ _ _ _ front longer _ left (sym on) book passed place told c.loop-turn.invariant.1,
+      book_more g.S.Quote.Quote.number g.S.Quote.Quote.read g.S.Quote.Quote.no_worse g.S.Rule.SharingRule.meaning (length c.args.demands.now) (length c.args.shares.now) c.args.reader.now.bytes.now b r.passed r.place a is _ _ _ _ _ _ left (sym on) book passed place c.loop-turn.invariant.2,
       c.attend_one-answer.ensures.reader.bytes ∙ c.loop-turn.invariant.3,
       c.attend_one-answer.ensures.same ∙ c.loop-turn.invariant.4,
     )
@@ -31,16 +31,16 @@ returns-then-not-goes_on g c =
     let b = view c.loop-turn.book in
     let a = c.attend_one-answer.result in
     let left : 8_192 - c.loop-turn.turn ≡ suc (8_192 - (c.loop-turn.turn + 1)) = omega (arith, c.loop-turn-test.true) in
-    let is = answer_here g.Quote.Quote.number g.Quote.Quote.read g.Quote.Quote.no_worse g.Rule.SharingRule.meaning (length c.args.demands.now) (length c.loop-turn.demands) (length c.args.shares.now) (length c.loop-turn.shares) c.args.reader.now.bytes.now c.loop-turn.reader.bytes.now c.loop-turn.auto.demands c.loop-turn.auto.shares c.loop-turn.invariant.3 (view c.loop-turn.book) c.loop-turn.reader.place r.passed a c.attend_one-answer.ensures.result in
-    let book = book_here g.Quote.Quote.number g.Quote.Quote.read g.Quote.Quote.no_worse g.Rule.SharingRule.meaning (length c.args.demands.now) (length c.loop-turn.demands) (length c.args.shares.now) (length c.loop-turn.shares) c.args.reader.now.bytes.now c.loop-turn.reader.bytes.now c.loop-turn.auto.demands c.loop-turn.auto.shares c.loop-turn.invariant.3 (view c.loop-turn.book) c.loop-turn.reader.place (view c.attend_one-answer.new.book) c.attend_one-answer.ensures.after in
+    let is = answer_here g.S.Quote.Quote.number g.S.Quote.Quote.read g.S.Quote.Quote.no_worse g.S.Rule.SharingRule.meaning (length c.args.demands.now) (length c.loop-turn.demands) (length c.args.shares.now) (length c.loop-turn.shares) c.args.reader.now.bytes.now c.loop-turn.reader.bytes.now c.loop-turn.auto.demands c.loop-turn.auto.shares c.loop-turn.invariant.3 (view c.loop-turn.book) c.loop-turn.reader.place r.passed a c.attend_one-answer.ensures.result in
+    let book = book_here g.S.Quote.Quote.number g.S.Quote.Quote.read g.S.Quote.Quote.no_worse g.S.Rule.SharingRule.meaning (length c.args.demands.now) (length c.loop-turn.demands) (length c.args.shares.now) (length c.loop-turn.shares) c.args.reader.now.bytes.now c.loop-turn.reader.bytes.now c.loop-turn.auto.demands c.loop-turn.auto.shares c.loop-turn.invariant.3 (view c.loop-turn.book) c.loop-turn.reader.place (view c.attend_one-answer.new.book) c.attend_one-answer.ensures.after in
     let front = take c.loop-turn.used c.loop-turn.log in
     let longer = take c.append-used.result c.append-used.new.table in
     let told = c.append-used.ensures.front ∙ ap (λ t. front ++ t) c.refusal_in.ensures in
     let off = c.if-not-goes_on.ensures in
     record {
       few = omega (arith, one_at_most c.refusal_in.result, c.append-used.ensures.count, c.loop-turn.invariant.0, c.loop-turn-test.true);
-      refusals = refusals_stop g.Quote.Quote.number g.Quote.Quote.read g.Quote.Quote.no_worse g.Rule.SharingRule.meaning (length c.args.demands.now) (length c.args.shares.now) c.args.reader.now.bytes.now b r.passed r.place a is _ _ front longer _ left (sym off) told c.loop-turn.invariant.1;
-      after = book_stop g.Quote.Quote.number g.Quote.Quote.read g.Quote.Quote.no_worse g.Rule.SharingRule.meaning (length c.args.demands.now) (length c.args.shares.now) c.args.reader.now.bytes.now b r.passed r.place a is _ _ _ _ left (sym off) book c.loop-turn.invariant.2;
+      refusals = refusals_stop g.S.Quote.Quote.number g.S.Quote.Quote.read g.S.Quote.Quote.no_worse g.S.Rule.SharingRule.meaning (length c.args.demands.now) (length c.args.shares.now) c.args.reader.now.bytes.now b r.passed r.place a is _ _ front longer _ left (sym off) told c.loop-turn.invariant.1;
+      after = book_stop g.S.Quote.Quote.number g.S.Quote.Quote.read g.S.Quote.Quote.no_worse g.S.Rule.SharingRule.meaning (length c.args.demands.now) (length c.args.shares.now) c.args.reader.now.bytes.now b r.passed r.place a is _ _ _ _ left (sym off) book c.loop-turn.invariant.2;
       same = c.attend_one-answer.ensures.same ∙ c.loop-turn.invariant.4;
     }
 
@@ -51,7 +51,7 @@ returns g c =
     let none : 8_192 - c.loop-turn.turn ≡ 0 = omega (arith, c.loop-turn-test.false) in
     record {
       few = omega (arith, c.loop-turn.invariant.0, c.loop-turn.auto.turn-end);
-      refusals = refusals_end g.Quote.Quote.number g.Quote.Quote.read g.Quote.Quote.no_worse g.Rule.SharingRule.meaning (length c.args.demands.now) (length c.args.shares.now) c.args.reader.now.bytes.now b r.passed r.place _ (take c.loop-turn.used c.loop-turn.log) _ none c.loop-turn.invariant.1;
-      after = book_end g.Quote.Quote.number g.Quote.Quote.read g.Quote.Quote.no_worse g.Rule.SharingRule.meaning (length c.args.demands.now) (length c.args.shares.now) c.args.reader.now.bytes.now b r.passed r.place _ _ none c.loop-turn.invariant.2;
+      refusals = refusals_end g.S.Quote.Quote.number g.S.Quote.Quote.read g.S.Quote.Quote.no_worse g.S.Rule.SharingRule.meaning (length c.args.demands.now) (length c.args.shares.now) c.args.reader.now.bytes.now b r.passed r.place _ (take c.loop-turn.used c.loop-turn.log) _ none c.loop-turn.invariant.1;
+      after = book_end g.S.Quote.Quote.number g.S.Quote.Quote.read g.S.Quote.Quote.no_worse g.S.Rule.SharingRule.meaning (length c.args.demands.now) (length c.args.shares.now) c.args.reader.now.bytes.now b r.passed r.place _ _ none c.loop-turn.invariant.2;
       same = c.loop-turn.invariant.4;
     }

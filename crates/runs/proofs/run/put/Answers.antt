@@ -8,7 +8,7 @@ pub returns : goal.returns
 returns g c =
     let book = c.args.book.now in
     let named =
-    step_named g.Quote.Quote.number g.Quote.Quote.read g.Quote.Quote.no_worse g.Rule.SharingRule.meaning
+    step_named g.S.Quote.Quote.number g.S.Quote.Quote.read g.S.Quote.Quote.no_worse g.S.Rule.SharingRule.meaning
     c.args.one c.args.other (length c.cut.result.now) (length c.cut-2.result.now) (view book) c.args.event book.few c.cut.ensures c.cut-2.ensures in
     record {
       answer = c.put_answer.ensures ∙ ap put_answer c.take.ensures.result ∙ ap (λ p. put_answer p.1) named;

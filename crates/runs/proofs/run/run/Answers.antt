@@ -8,7 +8,7 @@ use Rattle.runs.proofs.run.run.Goals as goal
 
 pub loop-exchange-preserved : goal.loop-exchange-preserved
 loop-exchange-preserved g c = (
-  midway_more g.Quote.Quote.number g.Quote.Quote.read g.Quote.Quote.no_worse g.Rule.SharingRule.meaning
+  midway_more g.S.Quote.Quote.number g.S.Quote.Quote.read g.S.Quote.Quote.no_worse g.S.Rule.SharingRule.meaning
       (view c.open-book.result) c.args.calls.now (view c.loop-exchange.book) (view c.fill.new.book) c.loop-exchange.exchange-index c.loop-exchange.calls
       c.exchange-item.result c.fill.new.exchange (search rules) c.fill.ensures.answer c.fill.ensures.after c.loop-exchange.invariant.0,
   c.fill.ensures.same ∙ c.loop-exchange.invariant.1,
@@ -16,10 +16,10 @@ loop-exchange-preserved g c = (
 
 pub returns : goal.returns
 returns g c =
-    let number = g.Quote.Quote.number in
-    let read = g.Quote.Quote.read in
-    let no_worse = g.Quote.Quote.no_worse in
-    let share = g.Rule.SharingRule.meaning in
+    let number = g.S.Quote.Quote.number in
+    let read = g.S.Quote.Quote.read in
+    let no_worse = g.S.Quote.Quote.no_worse in
+    let share = g.S.Rule.SharingRule.meaning in
     let rows = c.args.rows.now in
     let calls = c.args.calls.now in
     let notice = c.args.notice.notice in
@@ -31,4 +31,4 @@ returns g c =
     let kept : view c.loop-exchange.book ≡ sheet_after number read no_worse share (opened notice rows) (calls_of calls) =
     end.1 ∙ ap (λ s. sheet_after number read no_worse share s (calls_of calls)) start in
     let rows_end = ap (λ s. s.rows) kept in
-    run_law number read no_worse share g.met.Quote.Quote.lawful g.met.Rule.SharingRule.fair notice (checked_fits c.args.notice) rows calls _ _ (search rules) made
+    run_law number read no_worse share g.met.S.Quote.Quote.lawful g.met.S.Rule.SharingRule.fair notice (checked_fits c.args.notice) rows calls _ _ (search rules) made
