@@ -8,6 +8,6 @@ pub returns : goal.returns
 returns g c =
     record {
       written = same_rows price_number read_price price_no_worse g.R.SharingRule.meaning 2 g.R.SharingRule.code (codes "PRICE") c.args.bytes.now c.args.space.now c.print_sale.new.space
-          c.print_sale.result 1_024 c.blank_row.result (blank_row lowest_price) (c.blank_row.ensures ∙ ap blank_row c.lowest_price.ensures) c.print_sale.ensures.written;
+          c.print_sale.result 1_024 c.blank-row.result (blank_row lowest_price) (c.blank-row.ensures ∙ ap blank_row c.lowest_price.ensures) c.print_sale.ensures.written;
       enough = c.print_sale.ensures.enough (lit≤ tt);
     }

@@ -8,6 +8,6 @@ pub returns : goal.returns
 returns g c =
     record {
       written = same_rows rate_number read_rate rate_no_worse g.R.SharingRule.meaning 1 g.R.SharingRule.code (codes "RATE") c.args.bytes.now c.args.space.now c.print_sale.new.space
-          c.print_sale.result 1_024 c.blank_row.result (blank_row lowest_rate) (c.blank_row.ensures ∙ ap blank_row c.lowest_rate.ensures) c.print_sale.ensures.written;
+          c.print_sale.result 1_024 c.blank-row.result (blank_row lowest_rate) (c.blank-row.ensures ∙ ap blank_row c.lowest_rate.ensures) c.print_sale.ensures.written;
       enough = c.print_sale.ensures.enough (lit≤ tt);
     }
