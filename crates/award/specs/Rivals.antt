@@ -1,6 +1,6 @@
 -- What holds of every award: no other way to give out the lots does better.
 use Rattle.std.specs.Prelude.{◌≡◌, ℕ, ◌<◌, ◌≤◌, min, Bool, true, false, cond, ◌≢◌, ◌⊎◌, ◌↔◌, List, [], ◌∷◌, length, Some, None, sum_by, sum, Option, ◌==◌}
-use Rattle.std.specs.List.{AllByRecursion as All}
+use Rattle.std.specs.List.{AllByRecursion}
 use Rattle.terms.specs.Sharing.{most_lots, most_demands, demand_fits}
 use Rattle.award.specs.Award.{Bid, Terms, next, later, demand, cut_off, allotments}
 
@@ -12,7 +12,7 @@ SomeIs P (x ∷ xs) = P x ⊎ SomeIs P xs
 -- no two bids have the same number
 abbrev pub Apart : {Q : Type 0} → List (Bid Q) → Type 0
 Apart [] = Unit {0}
-Apart (b ∷ bids) = All (λ a. b.number ≢ a.number) bids × Apart bids
+Apart (b ∷ bids) = AllByRecursion (λ a. b.number ≢ a.number) bids × Apart bids
 
 -- the offers and bids that this is said of
 pub record Sound {Q : Type 0} (t : Terms) (bids : List (Bid Q)) : Type 0 where
@@ -21,7 +21,7 @@ pub record Sound {Q : Type 0} (t : Terms) (bids : List (Bid Q)) : Type 0 where
   pub least : 1 ≤ t.least_placement
   -- at most 4,096 bids, each of 1 to 1,000,000,000 lots and with a number of its own
   pub few : length bids ≤ most_demands
-  pub lots : All (λ b. demand_fits b.lots ≡ true) bids
+  pub lots : AllByRecursion (λ b. demand_fits b.lots ≡ true) bids
   pub apart : Apart bids
 
 -- the lots of one number, where a list has the lots of each bid; other numbers get nothing
@@ -46,9 +46,9 @@ module _ {Q : Type 0} (no_worse : Q → Q → Bool) where
   -- A rival: any way to give out the lots, told by bid number,
   pub record Rival (t : Terms) (limit : Q) (bids : List (Bid Q)) (x : ℕ → ℕ) : Type 0 where
     -- that gives no bid more than it asks for,
-    pub own : All (λ b. x b.number ≤ b.lots) bids
+    pub own : AllByRecursion (λ b. x b.number ≤ b.lots) bids
     -- nothing to a bid past the limit,
-    pub past : All (λ b. no_worse b.quote limit ≡ false → x b.number ≡ 0) bids
+    pub past : AllByRecursion (λ b. no_worse b.quote limit ≡ false → x b.number ≡ 0) bids
     -- and no more than the offer in all.
     pub in_all : reached bids x ≤ t.offer
 
@@ -67,7 +67,7 @@ module _ {Q : Type 0} (no_worse : Q → Q → Bool) where
     pub told : reached bids given ≡ placed
     pub lesser : placed ≡ min t.offer (demand no_worse limit bids)
     -- every bid that received lots is no worse than the cut_off, and one at the cut_off received lots.
-    pub no_worse_served : All (λ b. 1 ≤ given b.number → no_worse b.quote cut ≡ true) bids
+    pub no_worse_served : AllByRecursion (λ b. 1 ≤ given b.number → no_worse b.quote cut ≡ true) bids
     pub cut_served : SomeIs (λ b. (b.quote ≡ cut) × (1 ≤ given b.number)) bids
 
   -- An act: the lots given, by bid number, the lots placed, and the cut_off, which is absent exactly on the grounds for a void act.

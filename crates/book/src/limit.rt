@@ -3,7 +3,7 @@ ghost use Rattle.std.specs.Prelude.{◌≡◌, ◌≤◌, true, length, take, is
 ghost use Rattle.terms.specs.Grounds.{first, refused};
 ghost use Rattle.terms.specs.Sharing.{filled};
 ghost use Rattle.award.specs.Award.{cut_off};
-ghost use Rattle.award.specs.Rows.{standing, terms_of as award-terms, lots_by_row, shares_at_cut, given_to};
+ghost use Rattle.award.specs.Rows.{standing, terms_of as award_terms, lots_by_row, shares_at_cut, given_to};
 ghost use Rattle.book.specs.Questions.{terms_of};
 ghost use Rattle.book.specs.Sheets.{in_use};
 ghost use Rattle.book.specs.Steps.{state_by};
@@ -38,7 +38,7 @@ impl<'a, S: Sale> Book<'a, S> {
 
     // What the award goes by.
     fn conditions(&self) -> Conditions
-        ensures { award-terms result ≡ terms_of (view self.now).notice }
+        ensures { award_terms result ≡ terms_of (view self.now).notice }
     {
         let notice = self.notice();
         Conditions {

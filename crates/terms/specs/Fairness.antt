@@ -2,7 +2,7 @@
 use Rattle.std.specs.Prelude.{◌≡◌, ℕ, zero, suc, ◌+◌, ◌-◌, ◌*◌, ◌/◌, ◌<◌, ◌≤◌, min, Bool, true, false, cond, ◌&&◌, List, [], ◌∷◌, ◌++◌, length, sum_by, sum, nat_le, nat_lt, refl}
 use Rattle.std.proofs.Common.{sym, ap, ◌∙◌, ⊎_elim, arith, mul_comm, add-mul, mul-add, mul-le-mul_left, add-one}
 use Rattle.std.proofs.Math.Nat.{mul-div-le, div-le_of_le-mul, le_of_mul-le-mul_left}
-use Rattle.std.specs.List.{AllZip, AllByRecursion as All}
+use Rattle.std.specs.List.{AllZip, AllByRecursion}
 use Rattle.std.proofs.lemmas.List.Sums.{sum_by-cons}
 use Rattle.std.proofs.ByRecursion.{All-weaker}
 use Rattle.std.proofs.lemmas.Bool.{cases_lt, and_parts, leb-true}
@@ -14,14 +14,14 @@ use Rattle.terms.specs.Dealing.{Divisible, Ready, Threshold, dealt}
 use Rattle.terms.specs.Rooms.{below_none, below_next, below_cons, dealt_is, sum_dealt}
 
 -- what the tests say
-pub each_fits_is : (ds : List ℕ) → demands_fit ds ≡ true → All (λ d. (1 ≤ d) × (d ≤ most_lots)) ds
+pub each_fits_is : (ds : List ℕ) → demands_fit ds ≡ true → AllByRecursion (λ d. (1 ≤ d) × (d ≤ most_lots)) ds
 each_fits_is [] h = tt
 each_fits_is (d ∷ ds) h =
     let p = and_parts (demand_fits d) (demands_fit ds) h in
     let q = and_parts (nat_le 1 d) (nat_le d most_lots) p.0 in
     ((leb-true 1 d q.0, leb-true d most_lots q.1), each_fits_is ds p.1)
 
-pub lots_fit_is : (ds : List ℕ) (s : ℕ) → lots_fit ds s ≡ true → All (λ d. (1 ≤ d) × (d ≤ most_lots)) ds × (s ≤ sum ds) × (s ≤ most_lots)
+pub lots_fit_is : (ds : List ℕ) (s : ℕ) → lots_fit ds s ≡ true → AllByRecursion (λ d. (1 ≤ d) × (d ≤ most_lots)) ds × (s ≤ sum ds) × (s ≤ most_lots)
 lots_fit_is ds s h =
     let p = and_parts (demands_fit ds) (nat_le s (sum ds) && nat_le s most_lots) h in
     let q = and_parts (nat_le s (sum ds)) (nat_le s most_lots) p.1 in
@@ -82,7 +82,7 @@ firsts_le s ds h =
     (cases_lt 0 (sum ds))
 
 -- below a bound of all demands there is all the room
-pub below_all : (f : ℕ → ℕ) (n : ℕ) → ((d : ℕ) → f d ≤ d) → (ds : List ℕ) → All (λ d. d < n) ds → room_below f n ds + sum_by f ds ≡ sum ds
+pub below_all : (f : ℕ → ℕ) (n : ℕ) → ((d : ℕ) → f d ≤ d) → (ds : List ℕ) → AllByRecursion (λ d. d < n) ds → room_below f n ds + sum_by f ds ≡ sum ds
 below_all f n fits [] h = refl
 below_all f n fits (d ∷ ds) h =
     let fit = fits d in
@@ -137,7 +137,7 @@ pro_rata_fair ds s h c =
     }
 
 -- What the code of pro rata builds on
-sum_some : (ds : List ℕ) → All (λ d. (1 ≤ d) × (d ≤ most_lots)) ds → 0 < length ds → 0 < sum ds
+sum_some : (ds : List ℕ) → AllByRecursion (λ d. (1 ≤ d) × (d ≤ most_lots)) ds → 0 < length ds → 0 < sum ds
 sum_some [] h some = absurd (omega arith)
 sum_some (d ∷ ds) h some = let one : 1 ≤ d = h.0.0 in rw (sum_by-cons (λ x. x) d ds) (omega arith)
 

@@ -58,6 +58,6 @@ fn a_lower_rate_and_a_higher_price_are_better(rt: HostRuntime) {
 #[test]
 fn kinds_have_their_codes_and_words(rt: HostRuntime) {
     assert_eq!(rt; (Rate::code(), Price::code()), (1, 2));
-    assert!(rt; Rate::word() == b"RATE");
-    assert!(rt; Price::word() == b"PRICE");
+    assert!(rt; Rate::word() == b"RATE".as_slice());
+    assert!(rt; Price::word() == b"PRICE".as_slice());
 }

@@ -1,5 +1,5 @@
 use Rattle.std.proofs.Common.{length, ◌∙◌}
-use Rattle.award.specs.Rows.{terms_of as award-terms}
+use Rattle.award.specs.Rows.{terms_of as award_terms}
 use Rattle.book.specs.Questions.{terms_of}
 use Rattle.book.proofs.Awarding.{reckoned_ok, lots_in_use, shares_in_use}
 use Rattle.book.proofs.book.Book.reckon.Goals as goal
@@ -10,7 +10,7 @@ returns g c =
     let told = c.in_ok-cut.ensures in
     let better = g.S.Quote.Quote.no_worse in
     let share = g.S.Rule.SharingRule.meaning in
-    let given = award-terms c.conditions.result in
+    let given = award_terms c.conditions.result in
     let terms = terms_of b.notice.notice in
     record {
       answer = reckoned_ok better share given terms c.conditions.ensures c.args.limit b.rows.now b.used b.fit
