@@ -1,5 +1,5 @@
 -- Rows written, moved up and marked in the table, as the calls do it.
-use Rattle.std.proofs.Common.{◌≡◌, ℕ, suc, ◌+◌, ◌-◌, ◌<◌, ◌≤◌, List, [], ◌∷◌, ◌++◌, length, get_or, take, drop, set, Some, sym, refl, ap, ◌∙◌, add-one, arith}
+use Rattle.std.proofs.Common.{◌≡◌, ℕ, suc, ◌+◌, ◌-◌, ◌<◌, ◌≤◌, List, [], ◌∷◌, ◌++◌, length, get_or, take, drop, set, Some, sym, ap, ◌∙◌, arith}
 use Rattle.std.specs.List.{remove}
 use Rattle.std.proofs.lemmas.List.{append_assoc, drop-append-le, drop_more, get_or-append_right, get_or-drop, get_or-take, length-append, length-drop, length_push, length-set, length-take-le, set-append_left, set_at, set_split, take-append-drop, take-append-le, take_at, take_more}
 use Rattle.std.proofs.lemmas.List.Edits.{get_or-remove_above, length-remove}

@@ -1,9 +1,8 @@
 -- The grounds against a house that names a bid by its number, by what was found among the rows in use.
-use Rattle.std.proofs.Common.{◌≡◌, ℕ, ◌≤◌, Bool, true, false, cond, not, eqb, List, [], ◌∷◌, length, get_or, take, Some, None, Option, sym, ap, ◌∙◌}
+use Rattle.std.proofs.Common.{◌≡◌, ℕ, ◌≤◌, cond, not, eqb, List, length, get_or, take, Some, None, Option, sym, ap, ◌∙◌}
 use Rattle.std.proofs.lemmas.Bool.{eq-eqb, ne_eqb}
 use Rattle.terms.specs.Grounds.{first}
 use Rattle.award.specs.declared.row.Row.{Row}
-use Rattle.award.specs.Award.{Bid}
 use Rattle.award.specs.Rows.{bid_in, standing}
 use Rattle.book.specs.declared.fault.BookFault.{BookFault}
 use Rattle.book.specs.declared.fault.BookFault.TheVariants.{NoSuchBid, OtherHouse}

@@ -1,9 +1,6 @@
 -- How a call is judged.
-use Rattle.std.specs.Prelude.{◌≡◌, ℕ, suc, Bool, cond, not, ◌||◌, List, [], ◌∷◌, ◌++◌, length, ℤ, is_some, Some, None, Option, Result, MatchResult, nat_lt}
-use Rattle.std.specs.Option.{option_map}
-use Rattle.std.specs.List.{remove}
+use Rattle.std.specs.Prelude.{◌≡◌, ℕ, Bool, not, ◌||◌, List, [], ◌∷◌, length, ℤ, is_some, Some, None, Option, Result, MatchResult, nat_lt}
 use Rattle.terms.specs.Grounds.{Ground, when, first}
-use Rattle.award.specs.declared.row.Row.{Row}
 use Rattle.award.specs.Award.{Bid}
 use Rattle.book.specs.declared.event.Event.{Event}
 use Rattle.book.specs.declared.event.Event.TheVariants.{Limit}
@@ -11,7 +8,7 @@ use Rattle.book.specs.declared.fault.BookFault.{BookFault}
 use Rattle.book.specs.declared.fault.BookFault.TheVariants.{NoSuchBid, OtherHouse, ShortTable}
 use Rattle.book.specs.Table.{is_of, grounds}
 use Rattle.book.specs.Sheets.{Sheet, past_of}
-use Rattle.book.specs.Steps.{stands_as, judged, effect}
+use Rattle.book.specs.Steps.{judged, effect}
 
 -- the grounds but the first, which is the state
 abbrev pub beyond_state : List (Ground BookFault) → List (Ground BookFault)

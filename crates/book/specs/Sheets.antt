@@ -1,5 +1,5 @@
 -- A book as a value: its sheet.
-use Rattle.std.specs.Prelude.{ℕ, List, take, ℤ, Some, None, Option}
+use Rattle.std.specs.Prelude.{ℕ, List, take, ℤ, None, Option}
 use Rattle.terms.specs.declared.notice.Notice.{Notice}
 use Rattle.award.specs.declared.row.Row.{Row}
 use Rattle.award.specs.Rows.{standing}

@@ -1,8 +1,8 @@
 -- What the accepted calls come to, and the table of refusals. Nothing here speaks of a book's rows or fields.
-use Rattle.std.specs.Prelude.{ℕ, ◌+◌, min, Bool, true, false, cond, not, ◌&&◌, ◌||◌, List, [], ◌∷◌, ◌++◌, length, ℤ, is_some, Some, None, filter, Option, ◌==◌, nat_le, nat_lt}
+use Rattle.std.specs.Prelude.{ℕ, ◌+◌, min, Bool, true, false, cond, not, ◌&&◌, ◌||◌, List, [], ◌∷◌, ◌++◌, ℤ, is_some, Some, None, filter, Option, ◌==◌, nat_le, nat_lt}
 use Rattle.std.specs.Str.{bytes_eq}
 use Rattle.terms.specs.declared.notice.Notice.{Notice}
-use Rattle.terms.specs.Grounds.{Ground, when, first}
+use Rattle.terms.specs.Grounds.{Ground, when}
 use Rattle.terms.specs.Tests.{between}
 use Rattle.award.specs.Award.{Bid}
 use Rattle.book.specs.declared.event.Event.{Event}

@@ -7,7 +7,7 @@ use Rattle.book.specs.declared.fault.BookFault.{BookFault}
 use Rattle.book.specs.declared.outcome.Outcome.{Outcome}
 use Rattle.book.specs.declared.outcome.Outcome.TheVariants.{Out}
 use Rattle.book.specs.Outcomes.{outcome_by}
-use Rattle.book.specs.Table.{Past, was_given}
+use Rattle.book.specs.Table.{was_given}
 use Rattle.book.specs.Questions.{told_unless, number_grounds}
 use Rattle.book.specs.Sheets.{Sheet, in_use, phase_of, limit_of, cut_of, past_of}
 

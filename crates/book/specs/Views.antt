@@ -1,5 +1,4 @@
 -- The sheet of a book.
-use Rattle.std.specs.Prelude.{ℤ}
 use Rattle.terms.specs.declared.quote.Quote.{Ghosts as QuoteGhosts}
 use Rattle.terms.specs.declared.quote.Worded.{Ghosts as WordedGhosts}
 use Rattle.terms.specs.declared.sharing.SharingRule.{Ghosts as RuleGhosts}

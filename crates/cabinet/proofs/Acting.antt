@@ -1,5 +1,5 @@
 -- Rows of an act, one number after another.
-use Rattle.std.proofs.Common.{◌≡◌, ℕ, suc, ◌+◌, ◌≤◌, Bool, List, [], ◌∷◌, ◌++◌, length, ℤ, Some, None, Option, sym, refl, ap, ◌∙◌, add-one, arith}
+use Rattle.std.proofs.Common.{◌≡◌, ℕ, ◌+◌, ◌≤◌, Bool, List, ◌++◌, length, ℤ, Some, None, Option, refl, ap, ◌∙◌, add-one, arith}
 use Rattle.book.specs.Sheets.{Sheet, in_use}
 use Rattle.book.specs.Told.{row_of}
 use Rattle.print.specs.declared.row.ActRow.{ActRow}

@@ -1,5 +1,5 @@
 -- What the session call answers where the book refuses an event.
-use Rattle.std.proofs.Common.{◌≡◌, ℕ, Bool, false, List, ℤ, Some, None, Ok, Err, Option, Result, sym, refl, ap, ◌∙◌, arith}
+use Rattle.std.proofs.Common.{◌≡◌, ℕ, Bool, false, List, ℤ, Some, Ok, Err, Option, Result, sym, refl, ap, ◌∙◌, arith}
 use Rattle.book.specs.declared.fault.BookFault.{BookFault}
 use Rattle.book.specs.Sheets.{Sheet}
 use Rattle.wire.specs.declared.fault.ReadFault.{ReadFault}

@@ -1,5 +1,5 @@
 -- What the notice call answers, from what the reader and the check answered.
-use Rattle.std.proofs.Common.{◌≡◌, ℕ, Some, None, Ok, Err, Option, Result, sym, refl, ap, ◌∙◌, arith}
+use Rattle.std.proofs.Common.{◌≡◌, ℕ, Some, Ok, Err, Option, Result, refl, arith}
 use Rattle.terms.specs.declared.fault.NoticeFault.{NoticeFault}
 use Rattle.terms.specs.declared.notice.Notice as notice
 use Rattle.terms.specs.Grounds.{refused}

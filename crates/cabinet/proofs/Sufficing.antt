@@ -1,5 +1,5 @@
 -- A space that has room for the longest print is never too short.
-use Rattle.std.proofs.Common.{◌≡◌, ℕ, ◌+◌, ◌*◌, ◌<◌, ◌≤◌, true, List, length, is_ok, Ok, Err, Result, refl, arith}
+use Rattle.std.proofs.Common.{ℕ, ◌≤◌, List, length, Ok, Err, Result, refl, arith}
 use Rattle.wire.specs.Writes.{Writes}
 use Rattle.wire.specs.declared.fault.WriteFault.{WriteFault}
 use Rattle.print.specs.declared.ending.Ending.{Ending}

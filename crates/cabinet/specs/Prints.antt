@@ -11,7 +11,7 @@ use Rattle.terms.specs.Prices.{price_number, price_no_worse, read_price}
 use Rattle.terms.specs.ProRata.{pro_rata}
 use Rattle.terms.specs.Rates.{rate_number, rate_no_worse, read_rate}
 use Rattle.award.specs.declared.row.Row.{Row}
-use Rattle.book.specs.Sheets.{Sheet, opened}
+use Rattle.book.specs.Sheets.{opened}
 use Rattle.wire.specs.declared.call.Call.TheVariants.{Opening}
 use Rattle.wire.specs.declared.fault.ReadFault.{ReadFault}
 use Rattle.wire.specs.declared.message.Message.{Message}
@@ -23,7 +23,7 @@ use Rattle.print.specs.Texts.{texts}
 use Rattle.cabinet.specs.declared.fault.LowerFault.TheVariants as lower
 use Rattle.cabinet.specs.declared.fault.SessionFault.{SessionFault}
 use Rattle.cabinet.specs.Sessions.{fields_of, read_refusal, opened_by, noted_by}
-use Rattle.cabinet.specs.Attended.{refusal_of, refusals_in, refusals_from, book_from}
+use Rattle.cabinet.specs.Attended.{refusal_of, refusals_from, book_from}
 use Rattle.cabinet.specs.Acts.{act_print}
 
 -- the refusals, and that there is no act

@@ -1,5 +1,5 @@
 -- What the calls of a session answer: first the reader judges the message, then the check of a notice or the book.
-use Rattle.std.specs.Prelude.{ℕ, ◌+◌, Bool, true, false, List, [], ◌∷◌, ℤ, Some, None, Ok, Err, Option, Result}
+use Rattle.std.specs.Prelude.{ℕ, ◌+◌, Bool, false, List, [], ◌∷◌, ℤ, Some, None, Ok, Err, Option, Result}
 use Rattle.terms.specs.declared.fault.NoticeFault.{NoticeFault}
 use Rattle.terms.specs.declared.notice.NoticeFields.{NoticeFields}
 use Rattle.terms.specs.declared.notice.Notice as notice

@@ -1,8 +1,7 @@
 -- The limit takes a sheet on, and what the accepted calls come to; the sheet then tells the award.
-use Rattle.std.proofs.Common.{◌≡◌, ℕ, ◌-◌, Bool, true, false, cond, List, length, ℤ, is_some, Some, None, sum_by, Option, sym, refl, ap, ◌∙◌, subst, arith}
+use Rattle.std.proofs.Common.{◌≡◌, ℕ, Bool, true, false, cond, List, length, ℤ, is_some, Some, None, sum_by, Option, sym, refl, ap, ◌∙◌, subst, arith}
 use Rattle.std.proofs.lemmas.List.{length-take-le}
 use Rattle.std.proofs.lemmas.Bool.{both_ways, not-false}
-use Rattle.std.proofs.lemmas.Bool.Decides.{nat_tests}
 use Rattle.terms.specs.Quotes.{Lawful}
 use Rattle.terms.specs.Grounds.{first}
 use Rattle.award.specs.declared.row.Row.{Row}

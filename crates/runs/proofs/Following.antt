@@ -1,6 +1,5 @@
 -- Each call takes a sheet on, and what the accepted calls come to; its answer is the one by the rules.
-use Rattle.std.proofs.Common.{◌≡◌, ℕ, ◌-◌, Bool, List, length, ℤ, Some, None, Option, refl, ap}
-use Rattle.std.proofs.lemmas.Bool.Decides.{nat_tests}
+use Rattle.std.proofs.Common.{◌≡◌, ℕ, Bool, List, length, ℤ, Some, None, Option, refl, ap}
 use Rattle.terms.specs.Quotes.{Lawful}
 use Rattle.terms.specs.Grounds.{first}
 use Rattle.book.specs.declared.event.Event.{Event}

@@ -1,13 +1,11 @@
 -- A sheet beside what the accepted calls come to: what calls keep true of it, and what it tells before an award.
-use Rattle.std.proofs.Common.{◌≡◌, ℕ, ◌-◌, ◌≤◌, Bool, true, false, List, length, take, drop, ℤ, None, Option, sym, refl, ap, ◌∙◌, subst, arith}
+use Rattle.std.proofs.Common.{◌≡◌, ℕ, ◌≤◌, Bool, true, false, List, length, take, drop, ℤ, None, Option, sym, refl, ap, ◌∙◌, subst, arith}
 use Rattle.std.specs.List.{AllByRecursion as All}
 use Rattle.std.proofs.lemmas.List.{length-append, length-drop, length-take-le, take_at}
 use Rattle.std.proofs.lemmas.Bool.{both_ways}
-use Rattle.std.proofs.lemmas.Bool.Decides.{nat_tests as tells}
 use Rattle.terms.specs.declared.notice.Notice.{Notice}
 use Rattle.terms.specs.Grounds.{first}
 use Rattle.award.specs.declared.row.Row.{Row}
-use Rattle.award.specs.Rows.{standing}
 use Rattle.award.proofs.Sums.{sum_zero}
 use Rattle.book.specs.declared.event.Event.{Event}
 use Rattle.book.specs.declared.state.State.{State}

@@ -1,11 +1,10 @@
 -- Lemmas for the pass that judges demands and balance.
-use Rattle.std.proofs.Common.{◌≡◌, ℕ, ◌+◌, ◌-◌, ◌<◌, ◌≤◌, Bool, true, false, cond, not, ◌&&◌, eqb, ltb, leb, List, length, get_or, take, drop, Some, None, sum, sym, refl, ap, ◌∙◌, arith}
+use Rattle.std.proofs.Common.{◌≡◌, ℕ, ◌-◌, ◌≤◌, true, false, eqb, leb, List, length, take, drop, Some, None, sum, sym, refl, ap, ◌∙◌, arith}
 use Rattle.std.proofs.lemmas.List.{take_all}
 use Rattle.std.proofs.lemmas.Bool.Decides.{nat_tests}
-use Rattle.terms.specs.declared.fault.ShareFault.{ShareFault}
 use Rattle.terms.specs.declared.fault.ShareFault.TheVariants.{Lots}
 use Rattle.terms.specs.Grounds.{first}
-use Rattle.terms.specs.Sharing.{demand_fits, demands_fit, lots_fit, few, most_demands, share_grounds}
+use Rattle.terms.specs.Sharing.{demand_fits, demands_fit, share_grounds}
 use Rattle.terms.proofs.Passing.{every_ends}
 use Rattle.terms.specs.Dealing.{grounds_left, Divisible}
 

@@ -1,7 +1,7 @@
 -- A loop that writes a table from its front: the places written, with what is still to be written, are the whole; the others are as they were.
-use Rattle.std.proofs.Common.{◌≡◌, ℕ, ◌+◌, ◌<◌, ◌≤◌, List, [], ◌∷◌, ◌++◌, length, take, drop, set, sym, refl, ap, ◌∙◌, append_assoc, arith}
+use Rattle.std.proofs.Common.{◌≡◌, ℕ, ◌+◌, ◌<◌, List, [], ◌∷◌, ◌++◌, length, take, drop, set, sym, refl, ap, ◌∙◌, append_assoc, arith}
 use Rattle.terms.specs.Sharing.{laid}
-use Rattle.std.proofs.lemmas.List.{append-nil, take_more_set, drop-set-lt, drop-drop, take-append-drop, take_at}
+use Rattle.std.proofs.lemmas.List.{append-nil, take_more_set, drop-set-lt, drop-drop, take-append-drop}
 
 abbrev pub Filling : ℕ → List ℕ → List ℕ → List ℕ → List ℕ → Type 0
 Filling i table old rest whole = (take i table ++ rest ≡ whole) × (drop i table ≡ drop i old)

@@ -1,5 +1,5 @@
 -- What the test of a notice's numbers says of them.
-use Rattle.std.proofs.Common.{◌≡◌, ℕ, ◌<◌, ◌≤◌, true, arith}
+use Rattle.std.proofs.Common.{◌≡◌, ◌<◌, ◌≤◌, true, arith}
 use Rattle.std.proofs.lemmas.Bool.Decides.{nat_tests}
 use Rattle.terms.specs.declared.notice.Notice.{Notice}
 use Rattle.terms.specs.Notices.{numbers_fit}

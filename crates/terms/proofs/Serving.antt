@@ -1,10 +1,9 @@
 -- Pro rata serves the smallest first share first, and equal ones by arrival.
-use Rattle.std.proofs.Common.{◌≡◌, ℕ, zero, suc, ◌+◌, ◌-◌, ◌<◌, ◌≤◌, min, true, cond, eqb, ltb, ◌⊎◌, List, [], ◌∷◌, ◌++◌, length, get_or, take, sum_by, sum, sym, refl, ap, ◌∙◌, ⊎_elim, append_assoc, arith}
+use Rattle.std.proofs.Common.{◌≡◌, ℕ, zero, suc, ◌+◌, ◌-◌, ◌<◌, ◌≤◌, min, true, cond, eqb, ◌⊎◌, List, [], ◌∷◌, ◌++◌, length, get_or, take, sum_by, sum, refl, ap, ⊎_elim, append_assoc, arith}
 use Rattle.std.proofs.lemmas.List.{append-nil, take-take}
 use Rattle.std.proofs.lemmas.List.Sums.{sum_by_more, sum_by-take-le}
 use Rattle.std.proofs.lemmas.Bool.Decides.{nat_tests}
-use Rattle.terms.specs.Sharing.{lots_fit}
-use Rattle.terms.specs.ProRata.{ServedBefore, ServedInOrder, first_at, first_share, pro_rata, room_at, room_below, topped_up}
+use Rattle.terms.specs.ProRata.{ServedInOrder, first_share, room_at, room_below, topped_up}
 use Rattle.terms.specs.Rooms.{below_next, below_mono}
 use Rattle.terms.specs.Fairness.{lots_fit_is, first_within}
 

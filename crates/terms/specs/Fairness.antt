@@ -1,5 +1,5 @@
 -- By each rule every demand has its share, no larger than itself, and the shares together are the whole balance.
-use Rattle.std.specs.Prelude.{◌≡◌, ℕ, zero, suc, ◌+◌, ◌-◌, ◌*◌, ◌/◌, ◌<◌, ◌≤◌, min, Bool, true, false, cond, ◌&&◌, List, [], ◌∷◌, ◌++◌, length, sum_by, sum, nat_le, nat_lt, refl}
+use Rattle.std.specs.Prelude.{◌≡◌, ℕ, zero, suc, ◌+◌, ◌-◌, ◌*◌, ◌<◌, ◌≤◌, min, true, cond, ◌&&◌, List, [], ◌∷◌, ◌++◌, length, sum_by, sum, nat_le, nat_lt, refl}
 use Rattle.std.proofs.Common.{sym, ap, ◌∙◌, ⊎_elim, arith, mul_comm, add-mul, mul-add, mul-le-mul_left, add-one}
 use Rattle.std.proofs.Math.Nat.{mul-div-le, div-le_of_le-mul, le_of_mul-le-mul_left}
 use Rattle.std.specs.List.{AllZip, AllByRecursion}
@@ -7,7 +7,7 @@ use Rattle.std.proofs.lemmas.List.Sums.{sum_by-cons}
 use Rattle.std.proofs.ByRecursion.{All-weaker}
 use Rattle.std.proofs.lemmas.Bool.{cases_lt, and_parts, leb-true}
 use Rattle.std.proofs.lemmas.Bool.Decides.{nat_tests}
-use Rattle.terms.specs.Sharing.{Fair, few, demand_fits, demands_fit, lots_fit, most_demands, most_lots}
+use Rattle.terms.specs.Sharing.{Fair, few, demand_fits, demands_fit, lots_fit, most_lots}
 use Rattle.terms.specs.Arrival.{in_arrival_order}
 use Rattle.terms.specs.ProRata.{first_share, pro_rata, room_below, topped_up}
 use Rattle.terms.specs.Dealing.{Divisible, Ready, Threshold, dealt}

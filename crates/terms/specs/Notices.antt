@@ -1,5 +1,5 @@
 -- The rules of a notice, and what a check of one does.
-use Rattle.std.specs.Prelude.{◌≡◌, ℕ, ◌<◌, ◌≤◌, Bool, true, not, ◌&&◌, ◌||◌, List, [], ◌∷◌, Some, None, codes, Option, ◌==◌, nat_le, nat_lt}
+use Rattle.std.specs.Prelude.{ℕ, Bool, not, ◌&&◌, ◌||◌, List, [], ◌∷◌, Some, None, codes, Option, ◌==◌, nat_le, nat_lt}
 use Rattle.terms.specs.declared.fault.NoticeFault.{NoticeFault}
 use Rattle.terms.specs.declared.fault.NoticeFault.TheVariants.{AgainstRules}
 use Rattle.terms.specs.declared.notice.Notice.{Notice}

@@ -1,5 +1,5 @@
 -- Prices: ten-thousandths per 100 of face value, 1 to 1,500,000; higher is better.
-use Rattle.std.specs.Prelude.{ℕ, Bool, List, ℤ, pos, codes, Option, int_le, refl}
+use Rattle.std.specs.Prelude.{Bool, ℤ, pos, Option, int_le, refl}
 use Rattle.terms.specs.Quotes.{in_range, read_within}
 use Rattle.terms.specs.declared.price.Price.{Price}
 

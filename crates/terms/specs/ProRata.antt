@@ -1,5 +1,5 @@
 -- Sharing pro rata: first shares in proportion, then the remainder by the smallest first share.
-use Rattle.std.specs.Prelude.{◌≡◌, ℕ, ◌+◌, ◌-◌, ◌*◌, ◌/◌, ◌<◌, ◌≤◌, min, Bool, true, cond, ◌⊎◌, List, [], ◌∷◌, ◌++◌, map, length, sum_by, sum, ◌==◌, nat_lt, slice_index}
+use Rattle.std.specs.Prelude.{◌≡◌, ℕ, ◌+◌, ◌-◌, ◌*◌, ◌/◌, ◌<◌, ◌≤◌, min, true, cond, ◌⊎◌, List, [], ◌∷◌, ◌++◌, map, length, sum_by, sum, ◌==◌, nat_lt, slice_index}
 use Rattle.terms.specs.Sharing.{lots_fit}
 
 -- the first share of a demand d of the balance s, where the demands together are `total`: the product before the division, rounded down

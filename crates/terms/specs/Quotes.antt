@@ -1,5 +1,5 @@
 -- Kinds of quote: the range of their numbers, how a number is read, and the laws that each kind shows.
-use Rattle.std.specs.Prelude.{◌≡◌, ℕ, Bool, true, false, ◌&&◌, ◌||◌, ℤ, pos, negsuc, ◌≤ℤ◌, is_some, Some, None, Ok, Err, Option, Result, int_le, refl}
+use Rattle.std.specs.Prelude.{◌≡◌, Bool, true, false, ◌&&◌, ◌||◌, ℤ, pos, negsuc, ◌≤ℤ◌, is_some, Some, None, Ok, Err, Option, Result, int_le}
 use Rattle.terms.specs.declared.fault.QuoteFault.{QuoteFault}
 use Rattle.terms.specs.declared.fault.QuoteFault.TheVariants.{OutOfRange}
 

@@ -1,10 +1,9 @@
 -- The laws of a kind of quote that is made of its numbers, by the lower or by the higher number.
-use Rattle.std.specs.Prelude.{◌≡◌, Bool, true, false, ◌||◌, ℤ, ◌≤ℤ◌, is_some, Some, None, Ok, Err, Option, Result, int_le, refl}
+use Rattle.std.specs.Prelude.{◌≡◌, Bool, true, false, ◌||◌, ℤ, ◌≤ℤ◌, is_some, Some, Ok, Err, int_le, refl}
 use Rattle.std.proofs.Common.{sym, ap, subst, ◌∙◌, arith}
 use denote.Struct.Props.{props}
 use Rattle.std.proofs.lemmas.Int.{ints}
 use Rattle.std.proofs.lemmas.Bool.{both_ways}
-use Rattle.terms.specs.declared.fault.QuoteFault.{QuoteFault}
 use Rattle.terms.specs.declared.fault.QuoteFault.TheVariants.{OutOfRange}
 use Rattle.terms.specs.Quotes.{lowest, highest, in_range, read_within, quoted, Lawful}
 

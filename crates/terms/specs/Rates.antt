@@ -1,5 +1,5 @@
 -- Rates: hundredths of a per cent, 0 to 9,999; lower is better.
-use Rattle.std.specs.Prelude.{ℕ, Bool, List, ℤ, pos, codes, Option, int_le, refl}
+use Rattle.std.specs.Prelude.{Bool, ℤ, pos, Option, int_le, refl}
 use Rattle.terms.specs.Quotes.{in_range, read_within}
 use Rattle.terms.specs.declared.rate.Rate.{Rate}
 

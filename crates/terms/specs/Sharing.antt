@@ -1,5 +1,5 @@
 -- Sharing rules: which demands and balances they take, what a call does to its table, and the law that each rule shows.
-use Rattle.std.specs.Prelude.{◌≡◌, ℕ, ◌≤◌, Bool, true, not, ◌&&◌, List, [], ◌∷◌, ◌++◌, length, drop, Some, None, sum, Option, nat_le, nat_lt}
+use Rattle.std.specs.Prelude.{◌≡◌, ℕ, ◌≤◌, Bool, not, ◌&&◌, List, [], ◌∷◌, ◌++◌, length, drop, Some, None, sum, Option, nat_le, nat_lt}
 use Rattle.std.specs.List.{AllZip}
 use Rattle.terms.specs.declared.fault.ShareFault.{ShareFault}
 use Rattle.terms.specs.declared.fault.ShareFault.TheVariants.{Lots, ShortTable, ManyDemands}

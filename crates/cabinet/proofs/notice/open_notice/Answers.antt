@@ -1,7 +1,6 @@
-use Rattle.std.proofs.Common.{◌≡◌, Some, Ok, Err, sym, ap, ◌∙◌}
+use Rattle.std.proofs.Common.{Ok, sym, ap, ◌∙◌}
 use Rattle.std.proofs.lemmas.Result.{err_from_is_err_and}
 use Rattle.wire.specs.declared.call.Call.TheVariants.{Opening}
-use Rattle.cabinet.specs.Faults.{located}
 use Rattle.cabinet.specs.Readings.{seen_by}
 use Rattle.cabinet.proofs.Opening.{seen_some, opened_refused, opened_accepted, noted_seen}
 use Rattle.cabinet.proofs.notice.open_notice.Goals as goal

@@ -1,4 +1,4 @@
-use Rattle.std.proofs.Common.{◌≡◌, ◌+◌, ◌-◌, ◌<◌, ◌≤◌, cond, ltb, ◌∷◌, length, get_or, drop, arith}
+use Rattle.std.proofs.Common.{◌+◌, ◌-◌, length, drop, arith}
 use Rattle.std.proofs.lemmas.List.{at_drop_all}
 use Rattle.terms.specs.ProRata.{first_share}
 use Rattle.terms.specs.Dealing.{dealt}

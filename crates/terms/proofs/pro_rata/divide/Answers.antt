@@ -1,5 +1,4 @@
-use Rattle.terms.specs.Dealing.{dealt}
-use Rattle.terms.specs.ProRata.{first_share, pro_rata}
+use Rattle.terms.specs.ProRata.{pro_rata}
 use Rattle.terms.specs.Fairness.{dealt_shares, pro_rata_length}
 use Rattle.terms.proofs.Filling.{laid_from}
 use Rattle.terms.proofs.pro_rata.divide.Goals as goal

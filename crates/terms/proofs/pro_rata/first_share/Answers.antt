@@ -1,4 +1,4 @@
-use Rattle.std.proofs.Common.{◌≡◌, arith, rules}
+use Rattle.std.proofs.Common.{arith, rules}
 use Rattle.terms.specs.Fairness.{first_within}
 use Rattle.terms.proofs.pro_rata.first_share.Goals as goal
 

@@ -1,6 +1,5 @@
 use Rattle.std.proofs.Common.{◌≡◌, ℕ, ◌+◌, ◌<◌, length, get_or, take, sym, refl, ap, ◌∙◌, arith, rules}
 use Rattle.std.proofs.lemmas.List.{length-set}
-use Rattle.award.specs.declared.row.Row.{Row}
 use Rattle.award.specs.Rows.{with_lots, given_to}
 use Rattle.award.proofs.Allotting.{given_none, given_more}
 use Rattle.book.specs.Sheets.{Sheet}

@@ -1,4 +1,4 @@
-use Rattle.std.proofs.Common.{◌≡◌, ℕ, false, List, length, take, Result, sym, refl, ap, ◌∙◌, w32}
+use Rattle.std.proofs.Common.{ℕ, false, List, length, take, Result, sym, refl, ap, ◌∙◌, w32}
 use Rattle.std.proofs.lemmas.Int.{to_z-of_z}
 use Rattle.std.proofs.lemmas.Bool.{both_ways}
 use Rattle.award.specs.Rows.{lots_by_row, given_to}

@@ -1,5 +1,4 @@
-use Rattle.std.proofs.Common.{◌≡◌, ℕ, ◌+◌, ◌-◌, ◌<◌, List, length, set, refl, ap, ◌∙◌, arith, rules}
-use Rattle.award.specs.declared.row.Row.{Row}
+use Rattle.std.proofs.Common.{◌+◌, ◌-◌, set, ap, ◌∙◌, arith}
 use Rattle.book.specs.Sheets.{Sheet}
 use Rattle.book.specs.Steps.{new_row}
 use Rattle.book.specs.Places.{on_rows}

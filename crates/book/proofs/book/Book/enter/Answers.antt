@@ -1,7 +1,6 @@
-use Rattle.std.proofs.Common.{◌≡◌, ℕ, suc, ◌+◌, ◌<◌, List, length, set, refl, ap, ◌∙◌, arith, rules}
+use Rattle.std.proofs.Common.{ℕ, ◌+◌, ◌<◌, List, length, set, refl, ap, ◌∙◌, arith, rules}
 use Rattle.std.proofs.lemmas.List.{length-set}
 use Rattle.award.specs.declared.row.Row.{Row}
-use Rattle.book.specs.Sheets.{Sheet}
 use Rattle.book.specs.Steps.{new_row}
 use Rattle.book.proofs.Fitting.{fit_next}
 use Rattle.book.proofs.Moving.{next_written}

@@ -1,4 +1,4 @@
-use Rattle.std.proofs.Common.{◌<◌, length, arith, rules}
+use Rattle.std.proofs.Common.{◌<◌, length, rules}
 use Rattle.std.proofs.lemmas.List.{length-set}
 use Rattle.book.proofs.Fitting.{fit_set}
 use Rattle.book.proofs.book.Book.put.Goals as goal

@@ -1,4 +1,4 @@
-use Rattle.std.proofs.Common.{◌≡◌, ◌<◌, List, length, get_or, refl, ap, arith, rules}
+use Rattle.std.proofs.Common.{◌<◌, List, length, get_or, refl, ap, arith, rules}
 use Rattle.std.proofs.lemmas.List.{length-set}
 use Rattle.award.specs.declared.row.Row.{Row}
 use Rattle.book.specs.Steps.{withdrawn_row}
