@@ -122,7 +122,7 @@ module _ {Q : Type 0} {number : Q → ℤ} {low high : ℤ} {no_worse : Q → Q 
               (e, omega (arith, h.0 ∙ cond-true (no_worse b.quote limit) b.lots 0 w, h.1)));
         }
 
-    -- 4. The cut_off is where the offer is met.
+    -- 4. The cut-off is where the offer is met.
     pub record Meets (cut : Q) : Type 0 where
       pub inside : no_worse cut limit ≡ true
       pub enough : t.offer ≤ asked (λ q. no_worse q cut) bids
@@ -167,14 +167,14 @@ module _ {Q : Type 0} {number : Q → ℤ} {low high : ℤ} {no_worse : Q → Q 
           left = left_by cut one found (foremost (λ a b. no_worse b a) (λ q. better no_worse q cut) bids) (finds (λ a b. no_worse b a) (λ q. better no_worse q cut) back bids);
         }
 
-    -- a lot given is at a better quote or at the cut_off
+    -- a lot given is at a better quote or at the cut-off
     better_or_same : (cut : Q) (b : Bid Q) (x : ℕ) (u v : Bool) → no_worse b.quote cut ≡ u → no_worse cut b.quote ≡ v → Given no_worse cut b x
         → x ≡ cond (u && not v) b.lots 0 + cond (u && v) x 0
     better_or_same cut b x true true eu ev g = omega arith
     better_or_same cut b x true false eu ev g = omega (arith, g.all eu ev)
     better_or_same cut b x false v eu ev g = omega (arith, g.none eu)
 
-    -- at a quote as bad as the cut_off every lot counts; at a better one each bid has all its lots
+    -- at a quote as bad as the cut-off every lot counts; at a better one each bid has all its lots
     best_by : (cut q : Q) (given x : ℕ → ℕ) (v : Bool) → no_worse cut q ≡ v → All (λ b. Given no_worse cut b (given b.number)) bids
         → reached bids given ≡ t.offer → Rival no_worse t limit bids x → placed_at no_worse q bids x ≤ placed_at no_worse q bids given
     best_by cut q given x true e is whole r =
@@ -230,7 +230,7 @@ module _ {Q : Type 0} {number : Q → ℤ} {low high : ℤ} {no_worse : Q → Q 
               (kind.same_quote b.quote cut (kind.same_number b.quote cut s.0 s.1), k.1));
         }
 
-    -- an act by its cut_off
+    -- an act by its cut-off
     abbrev ByCut : (ℕ → ℕ) → ℕ → Option Q → Type 0
     ByCut given placed None = VoidGround no_worse t limit bids × Voided given placed
     ByCut given placed (Some cut) = (VoidGround no_worse t limit bids → ⊥) × Awarded no_worse t limit bids given placed cut

@@ -1,5 +1,5 @@
--- The award: who gets how many lots, and the cut_off that every lot pays, by the rules in their order.
-use Rattle.std.specs.Prelude.{ℕ, ◌-◌, min, Bool, cond, not, ◌&&◌, ◌||◌, leb, List, [], ◌∷◌, map, length, Some, None, filter, Option, nat_le, nat_lt}
+-- The award: who gets how many lots, and the cut-off that every lot pays, by the rules in their order.
+use Rattle.std.specs.Prelude.{ℕ, ◌-◌, min, Bool, cond, not, ◌&&◌, ◌||◌, List, [], ◌∷◌, map, length, Some, None, filter, Option, nat_le, nat_lt}
 pub use Rattle.award.specs.Bids.{Bid, Terms, asked, earlier, foremost, next, later}
 use Rattle.award.specs.declared.reckoning.Reckoning.{Reckoning}
 use Rattle.award.specs.declared.reckoning.Reckoning.TheVariants.{Void, Everyone, Divided}
@@ -9,7 +9,7 @@ abbrev pub everyone_at : {Q : Type 0} → Option Q → Reckoning Q
 everyone_at None = Void
 everyone_at (Some cut) = Everyone cut
 
--- the cut_off that was reckoned; a void act has none
+-- the cut-off that was reckoned; a void act has none
 abbrev pub cut_of : {Q : Type 0} → Reckoning Q → Option Q
 cut_of Void = None
 cut_of (Everyone cut) = Some cut
@@ -36,23 +36,23 @@ module _ {Q : Type 0} (no_worse : Q → Q → Bool) where
   abbrev pub in_full : Q → List (Bid Q) → List ℕ
   in_full limit bids = map (λ b. cond (no_worse b.quote limit) b.lots 0) bids
 
-  -- and the cut_off is the worst quote among them.
+  -- and the cut-off is the worst quote among them.
   abbrev pub worst_within : Q → List (Bid Q) → Option Q
   worst_within limit bids = foremost (λ a b. no_worse b a) (λ q. no_worse q limit) bids
 
-  -- 4. Otherwise the cut_off is the best quote at which the bids of that quote or better ask for at least the offer.
+  -- 4. Otherwise the cut-off is the best quote at which the bids of that quote or better ask for at least the offer.
   abbrev pub best_reaching : ℕ → List (Bid Q) → Option Q
-  best_reaching offer bids = foremost no_worse (λ q. leb offer (asked (λ a. no_worse a q) bids)) bids
+  best_reaching offer bids = foremost no_worse (λ q. nat_le offer (asked (λ a. no_worse a q) bids)) bids
 
   -- The balance is the offer less what the better bids ask for,
   abbrev pub balance : ℕ → Q → List (Bid Q) → ℕ
   balance offer cut bids = offer - asked (λ q. better q cut) bids
 
-  -- and is divided among the bids at the cut_off.
+  -- and is divided among the bids at the cut-off.
   abbrev pub demands_at : Q → List (Bid Q) → List ℕ
   demands_at cut bids = map (λ b. b.lots) (filter (λ b. same b.quote cut) bids)
 
-  -- Better bids get all their lots, those at the cut_off the shares in turn, all others nothing.
+  -- Better bids get all their lots, those at the cut-off the shares in turn, all others nothing.
   abbrev pub dealt : Q → List (Bid Q) → List ℕ → List ℕ
   dealt cut [] shares = []
   dealt cut (b ∷ bids) shares =
@@ -69,12 +69,12 @@ module _ {Q : Type 0} (no_worse : Q → Q → Bool) where
       cond (void t limit bids) Void
       (cond (nat_le (demand limit bids) t.offer) (everyone_at (worst_within limit bids)) (divided_at t.offer bids (best_reaching t.offer bids)))
 
-  -- the cut_off
+  -- the cut-off
   abbrev pub cut_off : Terms → Q → List (Bid Q) → Option Q
   cut_off t limit bids = cut_of (reckoned t limit bids)
 
   module _ (share : List ℕ → ℕ → List ℕ) where
-    -- what the sharing rule gives to the bids at the cut_off
+    -- what the sharing rule gives to the bids at the cut-off
     abbrev pub shares_of : List (Bid Q) → Reckoning Q → List ℕ
     shares_of bids Void = []
     shares_of bids (Everyone cut) = []

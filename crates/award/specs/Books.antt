@@ -24,7 +24,7 @@ bid number lots quote = record { number = number; house = number; quote = quote;
 abbrev pub terms : ℕ → ℕ → ℕ → Terms
 terms offer number placement = record { offer = offer; least_number = number; least_placement = placement }
 
--- by a sharing rule, the award has this cut_off, and these are the allotments of the bids
+-- by a sharing rule, the award has this cut-off, and these are the allotments of the bids
 pub record ComesOut {Q : Type 0} (no_worse : Q → Q → Bool) (share : List ℕ → ℕ → List ℕ) (t : Terms) (limit : Q) (bids : List (Bid Q)) (cut : Option Q) (lots : List ℕ) : Type 0 where
   pub cut_is : cut_off no_worse t limit bids ≡ cut
   pub lots_are : allotments no_worse share t limit bids ≡ lots
@@ -56,7 +56,7 @@ DividedBy share lots =
 pub record WorkedBooks : Type 0 where
   -- four balances divided
   pub divisions : WorkedDivisions
-  -- the bids at 610 or better meet the offer exactly: the cut_off is not the next quote
+  -- the bids at 610 or better meet the offer exactly: the cut-off is not the next quote
   pub met_exactly : AtRates 40 (rate (pos 610) refl) (60 ∷ 40 ∷ 0 ∷ [])
   -- one lot less at 610
   pub one_lot_short : AtRates 39 (rate (pos 620) refl) (60 ∷ 39 ∷ 1 ∷ [])
@@ -69,6 +69,6 @@ pub record WorkedBooks : Type 0 where
   -- two bids with a demand of 49, below the least placement of 50; and with a demand of 50
   pub below_least : WithLeast 19 None (0 ∷ 0 ∷ [])
   pub at_least : WithLeast 20 (Some (rate (pos 610) refl)) (30 ∷ 20 ∷ [])
-  -- a balance of 60 divided by each rule among the bids at the cut_off
+  -- a balance of 60 divided by each rule among the bids at the cut-off
   pub shared_pro_rata : DividedBy pro_rata (40 ∷ 24 ∷ 15 ∷ 21 ∷ 0 ∷ [])
   pub shared_by_arrival : DividedBy in_arrival_order (40 ∷ 50 ∷ 10 ∷ 0 ∷ 0 ∷ [])

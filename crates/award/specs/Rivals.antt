@@ -57,7 +57,7 @@ module _ {Q : Type 0} (no_worse : Q → Q → Bool) where
   VoidGround t limit bids =
       (length bids < t.least_number) ⊎ ((x : ℕ → ℕ) → Rival t limit bids x → reached bids x < t.least_placement)
 
-  -- An act with the cut_off `cut`:
+  -- An act with the cut-off `cut`:
   pub record Awarded (t : Terms) (limit : Q) (bids : List (Bid Q)) (given : ℕ → ℕ) (placed : ℕ) (cut : Q) : Type 0 where
     -- the award is itself a rival,
     pub rival : Rival t limit bids given
@@ -66,11 +66,11 @@ module _ {Q : Type 0} (no_worse : Q → Q → Bool) where
     -- the lots placed are those given to the bids, and are the lesser of the offer and the demand;
     pub told : reached bids given ≡ placed
     pub lesser : placed ≡ min t.offer (demand no_worse limit bids)
-    -- every bid that received lots is no worse than the cut_off, and one at the cut_off received lots.
+    -- every bid that received lots is no worse than the cut-off, and one at the cut-off received lots.
     pub no_worse_served : AllByRecursion (λ b. 1 ≤ given b.number → no_worse b.quote cut ≡ true) bids
     pub cut_served : SomeIs (λ b. (b.quote ≡ cut) × (1 ≤ given b.number)) bids
 
-  -- An act: the lots given, by bid number, the lots placed, and the cut_off, which is absent exactly on the grounds for a void act.
+  -- An act: the lots given, by bid number, the lots placed, and the cut-off, which is absent exactly on the grounds for a void act.
   pub record Act (t : Terms) (limit : Q) (bids : List (Bid Q)) (given : ℕ → ℕ) (placed : ℕ) (cut : Option Q) : Type 0 where
     pub void_exactly : (cut ≡ None) ↔ VoidGround t limit bids
     pub voided : cut ≡ None → Voided given placed

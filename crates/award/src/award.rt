@@ -25,7 +25,7 @@ fn check_tables(rows: usize, demands: usize, shares: usize) -> Result<(), AwardF
     Ok(())
 }
 
-// The cut_off that was reckoned; a void act has none.
+// The cut-off that was reckoned; a void act has none.
 fn cut_of<Q: Quote>(reckoning: Reckoning<Q>) -> Option<Q>
     ensures { result ≡ cut_of reckoning }
 {
@@ -36,8 +36,8 @@ fn cut_of<Q: Quote>(reckoning: Reckoning<Q>) -> Option<Q>
     }
 }
 
-// Awards the offer among the bids, and answers the cut_off, which is absent in a void act. The front of the first table then holds the
-// lots of each row, that of the second the shares at the cut_off, and their other places are as they were. It is refused exactly where a
+// Awards the offer among the bids, and answers the cut-off, which is absent in a void act. The front of the first table then holds the
+// lots of each row, that of the second the shares at the cut-off, and their other places are as they were. It is refused exactly where a
 // table is shorter than the rows; both are then as they were.
 pub fn award<'a, Q: Quote, R: SharingRule>(
     bids: Bids<'a, Q>,

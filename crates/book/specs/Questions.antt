@@ -29,7 +29,7 @@ abbrev pub count_told : {Q : Type 0} → Past Q → ℕ
 count_told p = length p.standing
 
 module _ {Q : Type 0} (no_worse : Q → Q → Bool) (share : List ℕ → ℕ → List ℕ) (notice : Notice) where
-  -- by the limit, once it is accepted: the cut_off, the placed lots, and the lots of a number
+  -- by the limit, once it is accepted: the cut-off, the placed lots, and the lots of a number
   abbrev pub cut_by : List (Bid Q) → Option Q → Option Q
   cut_by bids None = None
   cut_by bids (Some limit) = cut_off no_worse (terms_of notice) limit bids

@@ -88,7 +88,7 @@ module _ {Q : Type 0} where
   judged (Some f) s after n = (s, Err f)
 
 module _ {Q : Type 0} (number : Q → ℤ) (read : ℤ → Option Q) (no_worse : Q → Q → Bool) (share : List ℕ → ℕ → List ℕ) where
-  -- the state after an award, by the limit and the cut_off
+  -- the state after an award, by the limit and the cut-off
   abbrev pub state_by : Q → Option Q → State
   state_by limit None = Void (number limit)
   state_by limit (Some cut) = Awarded (number limit) (number cut)

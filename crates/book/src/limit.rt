@@ -48,7 +48,7 @@ impl<'a, S: Sale> Book<'a, S> {
         }
     }
 
-    // Awards the offer among the bids in the used rows, and gives the cut_off; the front of the first table then holds the lots of each row.
+    // Awards the offer among the bids in the used rows, and gives the cut-off; the front of the first table then holds the lots of each row.
     fn reckon(
         &self,
         limit: S::Quote,

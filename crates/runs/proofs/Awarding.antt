@@ -46,7 +46,7 @@ module _ {Q : Type 0} (number : Q → ℤ) (read : ℤ → Option Q) (no_worse :
         let is = some_is (read (number q)) (kind.reads (number q) ∙ kind.within q) in
         is.1 ∙ ap Some (kind.same_quote is.0 q (kind.gives_back (number q) is.0 is.1))
 
-    -- the state after an award tells limit and cut_off
+    -- the state after an award tells limit and cut-off
     state_phase : (limit : Q) (o : Option Q) → phase_of (state_by number read no_worse share limit o) ≡ decided
     state_phase limit None = refl
     state_phase limit (Some cut) = refl
