@@ -2,7 +2,7 @@
 """Respells the repository's own definitions and lemmas: words joined by '_' instead of '-', types and modules in camel case.
 
 Run at the top of the repository. Names of the toolchain (goals, fields that it makes, its library), functions of src/ and strings keep theirs.
-A name that would fall together with another one of its file is printed and the script stops before it writes.
+A name that may fall together with another one of its file is printed, to be looked at; with --look nothing is written.
 """
 import glob
 import os
