@@ -49,5 +49,6 @@ pub trait Quote: Copy + Worded {
     fn no_worse(self, other: Self) -> bool
         ensures { result ≡ no_worse self other };
 
+    // What each kind shows. It is a law, which each impl proves, since it stands below the last function.
     ghost lawful: { Lawful number low high no_worse read };
 }

@@ -23,6 +23,8 @@ pub trait SharingRule {
         ensures refused { refused result ≡ first (share_grounds demands.now balance (length shares.old)) }
         ensures table { shares.new ≡ filled (refused result) (meaning demands.now balance) shares.old };
 
+    // What each rule shows: one share for each demand, none larger than its demand, together the balance. It is a law, which each impl
+    // proves, since it stands below the last function.
     ghost fair: { (ds : List ℕ) (s : ℕ) → lots_fit ds s ≡ true → few ds ≡ true → Fair ds s (meaning ds s) };
 }
 
