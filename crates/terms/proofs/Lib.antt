@@ -1,5 +1,5 @@
-pub mod Passing
 pub mod Checking
+pub mod Dividing
 pub mod Filling
 pub mod Serving
 pub mod Noticing

@@ -1,18 +1,7 @@
 -- How pro rata is computed: by the first share at which the remainder runs out, its threshold.
-use Rattle.std.specs.Prelude.{◌≡◌, ℕ, ◌+◌, ◌-◌, ◌<◌, ◌≤◌, min, true, cond, not, ◌&&◌, List, [], ◌∷◌, length, sum, ◌==◌, nat_le, nat_lt}
-use Rattle.terms.specs.declared.fault.ShareFault.{ShareFault}
-use Rattle.terms.specs.declared.fault.ShareFault.TheVariants.{Lots, ShortTable, ManyDemands}
-use Rattle.terms.specs.Grounds.{Ground, when}
-use Rattle.terms.specs.Sharing.{lots_fit, most_lots, most_demands}
+use Rattle.std.specs.Prelude.{◌≡◌, ℕ, ◌+◌, ◌-◌, ◌<◌, ◌≤◌, min, true, cond, List, [], ◌∷◌, length, sum, ◌==◌, nat_lt}
+use Rattle.terms.specs.Sharing.{lots_fit, most_demands}
 use Rattle.terms.specs.ProRata.{room_below}
-
--- the grounds once each demand is known to fit, where `bare` lots of the balance s are not covered by the demands
-abbrev pub grounds_left : ℕ → ℕ → ℕ → ℕ → List (Ground ShareFault)
-grounds_left s bare count places =
-    when (not (nat_le bare 0 && nat_le s most_lots)) Lots
-    ∷ when (nat_lt places count) ShortTable
-    ∷ when (not (nat_le count most_demands)) ManyDemands
-    ∷ []
 
 -- below the threshold v a demand gets all, at it what is left as far as it can take it, above it its first share
 abbrev pub dealt : (ℕ → ℕ) → ℕ → ℕ → List ℕ → List ℕ

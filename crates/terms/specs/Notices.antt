@@ -1,10 +1,11 @@
 -- The rules of a notice, and what a check of one does.
 use Rattle.std.specs.Prelude.{ℕ, Bool, not, ◌&&◌, ◌||◌, List, [], ◌∷◌, Some, None, codes, Option, ◌==◌, nat_le, nat_lt}
+use Rattle.std.specs.List.{list_all}
 use Rattle.terms.specs.declared.fault.NoticeFault.{NoticeFault}
 use Rattle.terms.specs.declared.fault.NoticeFault.TheVariants.{AgainstRules}
 use Rattle.terms.specs.declared.notice.Notice.{Notice}
 use Rattle.terms.specs.declared.notice.NoticeFields.{NoticeFields}
-use Rattle.terms.specs.Tests.{between, every}
+use Rattle.terms.specs.Tests.{between}
 use Rattle.terms.specs.Grounds.{Ground, when}
 
 -- a byte of a series code: A to Z or 0 to 9
@@ -13,7 +14,7 @@ series_byte b = between 65 b 90 || between 48 b 57
 
 -- a series code: each byte is such a byte
 abbrev pub series_fits : List ℕ → Bool
-series_fits = every series_byte
+series_fits = list_all series_byte
 
 -- the lots, the number of bids and the seconds
 abbrev pub numbers_fit : Notice → Bool

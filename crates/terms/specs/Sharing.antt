@@ -1,9 +1,9 @@
 -- Sharing rules: which demands and balances they take, what a call does to its table, and the law that each rule shows.
 use Rattle.std.specs.Prelude.{◌≡◌, ℕ, ◌≤◌, Bool, not, ◌&&◌, List, [], ◌∷◌, ◌++◌, length, drop, Some, None, sum, Option, nat_le, nat_lt}
-use Rattle.std.specs.List.{AllZip}
+use Rattle.std.specs.List.{AllZip, list_all}
 use Rattle.terms.specs.declared.fault.ShareFault.{ShareFault}
 use Rattle.terms.specs.declared.fault.ShareFault.TheVariants.{Lots, ShortTable, ManyDemands}
-use Rattle.terms.specs.Tests.{between, every}
+use Rattle.terms.specs.Tests.{between}
 use Rattle.terms.specs.Grounds.{Ground, when}
 
 -- the most lots that a demand or a balance may have
@@ -20,7 +20,7 @@ demand_fits d = between 1 d most_lots
 
 -- each demand is
 abbrev pub demands_fit : List ℕ → Bool
-demands_fit = every demand_fits
+demands_fit = list_all demand_fits
 
 -- the demands fit, and the balance is at most their sum and at most the most lots
 abbrev pub lots_fit : List ℕ → ℕ → Bool

@@ -13,13 +13,11 @@ pub enum InArrivalOrder {}
 impl SharingRule for InArrivalOrder {
     ghost meaning = { in_arrival_order };
 
-    ghost code = { 2 };
+    ghost CODE = { 2 };
 
     ghost fair = { arrival_fair };
 
-    fn code() -> u8 {
-        2
-    }
+    const CODE: u8 = 2;
 
     fn share(balance: u32, demands: &[u32], shares: &mut [u32]) -> Result<(), ShareFault> {
         check(balance, demands, shares.len())?;

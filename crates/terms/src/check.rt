@@ -1,7 +1,6 @@
 // The check of a notice.
 ghost use Rattle.std.specs.Prelude.{◌≡◌};
 ghost use Rattle.terms.specs.Grounds.{first, refused};
-ghost use Rattle.terms.specs.Tests.{between};
 ghost use Rattle.terms.specs.Notices.{series_byte, series_fits, numbers_fit, notice_fits, notice_grounds, noted, first_notice};
 
 use crate::checked::CheckedNotice;
@@ -39,10 +38,10 @@ pub fn check_notice<Q: Quote, R: SharingRule>(
     fields: &NoticeFields,
     place: &mut CheckedNotice,
 ) -> Result<(), NoticeFault>
-    ensures refused { refused result ≡ first (notice_grounds Q.Quote.code R.SharingRule.code fields.now) }
+    ensures refused { refused result ≡ first (notice_grounds Q.Quote.CODE R.SharingRule.CODE fields.now) }
     ensures place { place.new.notice ≡ noted (refused result) fields.now.notice place.old.notice }
 {
-    if fields.quote_code != Q::code() || fields.sharing_code != R::code() {
+    if fields.quote_code != Q::CODE || fields.sharing_code != R::CODE {
         return Err(NoticeFault::AgainstRules);
     }
     let notice = fields.notice;
@@ -57,36 +56,24 @@ pub fn check_notice<Q: Quote, R: SharingRule>(
 fn series_byte(byte: u8) -> bool
     ensures { result ≡ series_byte byte }
 {
-    byte >= 65 && byte <= 90 || byte >= 48 && byte <= 57
+    byte.is_ascii_uppercase() || byte.is_ascii_digit()
 }
 
 // Whether each byte of a series code is such a byte.
 fn series_fits(series: &[u8]) -> bool
     ensures { result ≡ series_fits series.now }
 {
-    for b in series {
-        if !series_byte(*b) {
-            return false;
-        }
-    }
-    true
+    series.iter().all(|b| series_byte(*b))
 }
 
 // Whether the lots, the number of bids and the seconds keep the rules.
 fn numbers_fit(notice: &Notice) -> bool
     ensures { result ≡ numbers_fit notice.now }
 {
-    within(1, notice.offer, 1_000_000_000)
-        && within(1, notice.minimum, notice.offer)
-        && within(1, notice.least_placement, notice.offer)
-        && within(1, notice.least_number as u32, 2)
+    (1..=1_000_000_000).contains(&notice.offer)
+        && (1..=notice.offer).contains(&notice.minimum)
+        && (1..=notice.offer).contains(&notice.least_placement)
+        && (1..=2).contains(&notice.least_number)
         && notice.opening < notice.closing
         && notice.closing <= 86_399
-}
-
-// Whether a number lies between two others, or is one of them.
-fn within(low: u32, number: u32, high: u32) -> bool
-    ensures { result ≡ between low number high }
-{
-    low <= number && number <= high
 }

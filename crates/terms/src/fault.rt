@@ -6,7 +6,7 @@ ghost use Rattle.terms.specs.Faults.{quote_fault_number, share_fault_number, not
 #[derive(Clone, Copy, PartialEq, Eq, Debug)]
 pub enum QuoteFault {
     // The number is outside the kind's range.
-    OutOfRange,
+    OutOfRange = 9,
 }
 
 impl QuoteFault {
@@ -14,9 +14,7 @@ impl QuoteFault {
     pub fn number(self) -> u8
         ensures { result ≡ quote_fault_number self }
     {
-        match self {
-            QuoteFault::OutOfRange => 9,
-        }
+        self as u8
     }
 }
 
@@ -24,11 +22,11 @@ impl QuoteFault {
 #[derive(Clone, Copy, PartialEq, Eq, Debug)]
 pub enum ShareFault {
     // A demand is out of range, or the balance is more than the demands or out of range.
-    Lots,
+    Lots = 10,
     // The table has fewer places than there are demands.
-    ShortTable,
+    ShortTable = 16,
     // There are more demands than a rule takes.
-    ManyDemands,
+    ManyDemands = 18,
 }
 
 impl ShareFault {
@@ -36,11 +34,7 @@ impl ShareFault {
     pub fn number(self) -> u8
         ensures { result ≡ share_fault_number self }
     {
-        match self {
-            ShareFault::Lots => 10,
-            ShareFault::ShortTable => 16,
-            ShareFault::ManyDemands => 18,
-        }
+        self as u8
     }
 }
 
@@ -48,7 +42,7 @@ impl ShareFault {
 #[derive(Clone, Copy, PartialEq, Eq, Debug)]
 pub enum NoticeFault {
     // It is against the rules of a notice.
-    AgainstRules,
+    AgainstRules = 17,
 }
 
 impl NoticeFault {
@@ -56,8 +50,6 @@ impl NoticeFault {
     pub fn number(self) -> u8
         ensures { result ≡ notice_fault_number self }
     {
-        match self {
-            NoticeFault::AgainstRules => 17,
-        }
+        self as u8
     }
 }

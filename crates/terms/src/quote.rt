@@ -4,16 +4,7 @@ ghost use Rattle.terms.specs.Quotes.{Lawful, quoted};
 
 use crate::fault::QuoteFault;
 
-// The word for a kind in an act. (It stands apart since a trait with a law cannot have a method that returns a reference.)
-pub trait Worded {
-    // the word, as bytes
-    ghost word: { List ℕ };
-
-    fn word() -> &'static [u8]
-        ensures { result.now ≡ word };
-}
-
-pub trait Quote: Copy + Worded {
+pub trait Quote: Copy {
     // the number of a quote
     ghost number: { Self → ℤ };
 
@@ -29,11 +20,16 @@ pub trait Quote: Copy + Worded {
     ghost read: { ℤ → Maybe Self };
 
     // the kind's code in a notice
-    ghost code: { ℕ };
+    ghost CODE: { ℕ };
 
-    // The kind's code in a notice.
-    fn code() -> u8
-        ensures { result ≡ code };
+    // the word for the kind in an act, as bytes
+    ghost word: { List ℕ };
+
+    const CODE: u8;
+
+    // The word for the kind in an act.
+    fn word() -> &'static [u8]
+        ensures { result.now ≡ word };
 
     // The quote with the lowest number.
     fn lowest() -> Self

@@ -5,16 +5,8 @@ ghost use Rattle.std.specs.Int.Signed.{le_z_yes};
 ghost use Rattle.terms.specs.Quoting.{lower_lawful};
 
 use crate::fault::QuoteFault;
-use crate::quote::{Quote, Worded};
+use crate::quote::Quote;
 use crate::rate::Rate;
-
-impl Worded for Rate {
-    ghost word = { codes "RATE" };
-
-    fn word() -> &'static [u8] {
-        b"RATE"
-    }
-}
 
 impl Quote for Rate {
     ghost number = { rate_number };
@@ -27,12 +19,16 @@ impl Quote for Rate {
 
     ghost read = { read_rate };
 
-    ghost code = { 1 };
+    ghost CODE = { 1 };
+
+    ghost word = { codes "RATE" };
 
     ghost lawful = { lower_lawful (pos 0) (pos 9_999) (λ n e. record { hundredths = n; within = e }) rate_number (λ n e. refl) (le_z_yes tt, le_z_yes tt) (λ a. a.within) (λ a. refl) };
 
-    fn code() -> u8 {
-        1
+    const CODE: u8 = 1;
+
+    fn word() -> &'static [u8] {
+        b"RATE"
     }
 
     fn lowest() -> Rate {
@@ -40,7 +36,7 @@ impl Quote for Rate {
     }
 
     fn read(value: i32) -> Result<Rate, QuoteFault> {
-        if value < 0 || value > 9_999 {
+        if !(0..=9_999).contains(&value) {
             return Err(QuoteFault::OutOfRange);
         }
         Ok(Rate { hundredths: value })

@@ -1,8 +1,7 @@
 // Sharing rules: how a balance is divided among demands, which are given in arrival order.
-ghost use Rattle.std.specs.Prelude.{◌≡◌, ℕ, true, List, length};
+ghost use Rattle.std.specs.Prelude.{◌≡◌, ℕ, ◌-◌, true, List, length, sum};
 ghost use Rattle.terms.specs.Grounds.{first, refused};
-ghost use Rattle.terms.specs.Sharing.{demand_fits, lots_fit, few, share_grounds, filled, Fair};
-ghost use Rattle.terms.specs.Dealing.{grounds_left};
+ghost use Rattle.terms.specs.Sharing.{demand_fits, demands_fit, lots_fit, few, share_grounds, filled, Fair};
 
 use crate::fault::ShareFault;
 
@@ -12,11 +11,9 @@ pub trait SharingRule {
     ghost meaning: { List ℕ → ℕ → List ℕ };
 
     // the rule's code in a notice
-    ghost code: { ℕ };
+    ghost CODE: { ℕ };
 
-    // The rule's code in a notice.
-    fn code() -> u8
-        ensures { result ≡ code };
+    const CODE: u8;
 
     // Fills the front of the table with the shares and leaves its other places; a refusal leaves it as it was.
     fn share(balance: u32, demands: &[u32], shares: &mut [u32]) -> Result<(), ShareFault>
@@ -38,35 +35,37 @@ const MOST_DEMANDS: usize = 4_096;
 fn demand_fits(demand: u32) -> bool
     ensures { result ≡ demand_fits demand }
 {
-    demand >= 1 && demand <= MOST_LOTS
+    (1..=MOST_LOTS).contains(&demand)
 }
 
-// Judges what a pass over demands that fit has found: `bare` lots of the balance are not covered by them.
-fn judge(balance: u32, bare: u32, count: usize, places: usize) -> Result<(), ShareFault>
-    ensures { refused result ≡ first (grounds_left balance bare count places) }
+// Whether each demand is.
+fn demands_fit(demands: &[u32]) -> bool
+    ensures { result ≡ demands_fit demands.now }
 {
-    if bare > 0 || balance > MOST_LOTS {
-        return Err(ShareFault::Lots);
-    }
-    if count > places {
-        return Err(ShareFault::ShortTable);
-    }
-    if count > MOST_DEMANDS {
-        return Err(ShareFault::ManyDemands);
-    }
-    Ok(())
+    demands.iter().all(|d| demand_fits(*d))
 }
 
-// Judges the demands, the balance and the count of places, in one pass. What is not covered is counted down, so that no sum can wrap.
+// What the demands do not cover of a balance. It is counted down, so that no sum can wrap.
+fn left_bare(balance: u32, demands: &[u32]) -> u32
+    ensures { result ≡ balance - sum demands.now }
+{
+    demands
+        .iter()
+        .fold(balance, |bare, d| bare.saturating_sub(*d))
+}
+
+// Judges the demands, the balance and the count of places.
 pub(crate) fn check(balance: u32, demands: &[u32], places: usize) -> Result<(), ShareFault>
     ensures { refused result ≡ first (share_grounds demands.now balance places) }
 {
-    let mut bare = balance;
-    for d in demands {
-        if !demand_fits(*d) {
-            return Err(ShareFault::Lots);
-        }
-        bare = bare.saturating_sub(*d);
+    if !demands_fit(demands) || left_bare(balance, demands) > 0 || balance > MOST_LOTS {
+        return Err(ShareFault::Lots);
     }
-    judge(balance, bare, demands.len(), places)
+    if demands.len() > places {
+        return Err(ShareFault::ShortTable);
+    }
+    if demands.len() > MOST_DEMANDS {
+        return Err(ShareFault::ManyDemands);
+    }
+    Ok(())
 }

@@ -83,13 +83,10 @@ fn lots_are_within_the_offer(rt: HostRuntime) -> Result<(), Fail> {
         (100, 10, 101, false),
     ] {
         let notice = Notice {
-            series: fine().series,
             offer,
             minimum,
             least_placement,
-            least_number: 2,
-            opening: 30_600,
-            closing: 46_800,
+            ..fine()
         };
         assert_eq!(rt; accepted(&rt, 1, 1, notice)?, fits);
     }
@@ -108,13 +105,10 @@ fn bids_are_one_or_two_at_least_and_seconds_of_one_day(rt: HostRuntime) -> Resul
         (1, 0, 86_400, false),
     ] {
         let notice = Notice {
-            series: fine().series,
-            offer: 100,
-            minimum: 10,
-            least_placement: 50,
             least_number,
             opening,
             closing,
+            ..fine()
         };
         assert_eq!(rt; accepted(&rt, 1, 1, notice)?, fits);
     }

@@ -1,25 +1,24 @@
 // Kinds of quote at the ends of their ranges.
 use terms::price::Price;
-use terms::quote::{Quote, Worded};
+use terms::quote::Quote;
 use terms::rate::Rate;
 
-// The number that a kind gives back for a number, or the refusal as a negative number.
-fn read_back<Q: Quote>(value: i32) -> i32 {
-    match Q::read(value) {
-        Ok(quote) => quote.number(),
-        Err(fault) => -(fault.number() as i32),
-    }
+// The number that a kind gives back for a number, or the number of the refusal.
+fn read_back<Q: Quote>(value: i32) -> Result<i32, u8> {
+    Q::read(value)
+        .map(|quote| quote.number())
+        .map_err(|fault| fault.number())
 }
 
 #[test]
 fn a_rate_is_0_to_9_999(rt: HostRuntime) {
     for (value, answer) in [
-        (0, 0),
-        (9_999, 9_999),
-        (-1, -9),
-        (10_000, -9),
-        (i32::MIN, -9),
-        (i32::MAX, -9),
+        (0, Ok(0)),
+        (9_999, Ok(9_999)),
+        (-1, Err(9)),
+        (10_000, Err(9)),
+        (i32::MIN, Err(9)),
+        (i32::MAX, Err(9)),
     ] {
         assert_eq!(rt; read_back::<Rate>(value), answer);
     }
@@ -28,11 +27,11 @@ fn a_rate_is_0_to_9_999(rt: HostRuntime) {
 #[test]
 fn a_price_is_1_to_1_500_000(rt: HostRuntime) {
     for (value, answer) in [
-        (1, 1),
-        (1_500_000, 1_500_000),
-        (0, -9),
-        (1_500_001, -9),
-        (i32::MIN, -9),
+        (1, Ok(1)),
+        (1_500_000, Ok(1_500_000)),
+        (0, Err(9)),
+        (1_500_001, Err(9)),
+        (i32::MIN, Err(9)),
     ] {
         assert_eq!(rt; read_back::<Price>(value), answer);
     }
@@ -57,7 +56,7 @@ fn a_lower_rate_and_a_higher_price_are_better(rt: HostRuntime) {
 
 #[test]
 fn kinds_have_their_codes_and_words(rt: HostRuntime) {
-    assert_eq!(rt; (Rate::code(), Price::code()), (1, 2));
+    assert_eq!(rt; (Rate::CODE, Price::CODE), (1, 2));
     assert!(rt; Rate::word() == b"RATE".as_slice());
     assert!(rt; Price::word() == b"PRICE".as_slice());
 }

@@ -3,12 +3,9 @@ use terms::arrival::InArrivalOrder;
 use terms::pro_rata::ProRata;
 use terms::sharing::SharingRule;
 
-// The number of a rule's refusal, and 0 where it divides.
-fn refusal<R: SharingRule>(balance: u32, demands: &[u32], shares: &mut [u32]) -> u8 {
-    match R::share(balance, demands, shares) {
-        Ok(()) => 0,
-        Err(fault) => fault.number(),
-    }
+// What a rule answers, with the number of its refusal.
+fn answer<R: SharingRule>(balance: u32, demands: &[u32], shares: &mut [u32]) -> Result<(), u8> {
+    R::share(balance, demands, shares).map_err(|fault| fault.number())
 }
 
 // The first three shares of a rule in a table of five that held 7s.
@@ -50,15 +47,15 @@ fn the_largest_demands_and_balance_are_divided(rt: HostRuntime) {
     );
 }
 
-// The refusal with a table of at most two places that held 7s, and the table after it.
-fn refused_with<R: SharingRule>(balance: u32, demands: &[u32], places: usize) -> (u8, [u32; 2]) {
+// The answer with a table of at most two places that held 7s, and the table after it.
+fn answer_with<R: SharingRule>(
+    balance: u32,
+    demands: &[u32],
+    places: usize,
+) -> (Result<(), u8>, [u32; 2]) {
     let mut table = [7; 2];
-    let number = match places {
-        0 => refusal::<R>(balance, demands, &mut table[0..0]),
-        1 => refusal::<R>(balance, demands, &mut table[0..1]),
-        _ => refusal::<R>(balance, demands, &mut table),
-    };
-    (number, table)
+    let told = answer::<R>(balance, demands, &mut table[0..places.min(2)]);
+    (told, table)
 }
 
 #[test]
@@ -76,12 +73,12 @@ fn a_refusal_is_the_smallest_and_leaves_the_table(rt: HostRuntime) {
         (1, &many, 2, 16),
     ] {
         assert_eq!(rt;
-            refused_with::<ProRata>(balance, demands, places),
-            (number, [7; 2])
+            answer_with::<ProRata>(balance, demands, places),
+            (Err(number), [7; 2])
         );
         assert_eq!(rt;
-            refused_with::<InArrivalOrder>(balance, demands, places),
-            (number, [7; 2])
+            answer_with::<InArrivalOrder>(balance, demands, places),
+            (Err(number), [7; 2])
         );
     }
 }
@@ -90,11 +87,11 @@ fn a_refusal_is_the_smallest_and_leaves_the_table(rt: HostRuntime) {
 fn more_than_4_096_demands_are_refused(rt: HostRuntime) {
     let many = [1; 4_097];
     let mut table = [7; 4_097];
-    assert_eq!(rt; refusal::<ProRata>(1, &many, &mut table), 18);
-    assert_eq!(rt; refusal::<InArrivalOrder>(1, &many, &mut table), 18);
+    assert_eq!(rt; answer::<ProRata>(1, &many, &mut table), Err(18));
+    assert_eq!(rt; answer::<InArrivalOrder>(1, &many, &mut table), Err(18));
     assert_eq!(rt;
-        refusal::<InArrivalOrder>(4_096, &many[0..4_096], &mut table),
-        0
+        answer::<InArrivalOrder>(4_096, &many[0..4_096], &mut table),
+        Ok(())
     );
     assert_eq!(rt; table[4_095], 1);
     assert_eq!(rt; table[4_096], 7);

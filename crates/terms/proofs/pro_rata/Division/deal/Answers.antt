@@ -4,12 +4,13 @@ use Rattle.terms.specs.ProRata.{first_share}
 use Rattle.terms.specs.Dealing.{dealt}
 use Rattle.terms.specs.Rooms.{dealt_more}
 use Rattle.terms.proofs.Filling.{filling_next, filling_done}
-use Rattle.terms.proofs.pro_rata.deal.Goals as goal
+use Rattle.terms.proofs.pro_rata.Division.deal.Goals as goal
 
 pub loop-i-preserved : goal.loop-i-preserved
 loop-i-preserved c =
-    let f = first_share c.args.balance c.args.total in
-    let ds = c.args.demands.now in
+    let d = c.args.self.now in
+    let f = first_share d.balance d.total in
+    let ds = d.demands.now in
     let i = c.loop-i.i in
     let start = c.first_share-start.result in
     let more = c.extra-more.result in
@@ -20,7 +21,8 @@ loop-i-preserved c =
 
 pub returns : goal.returns
 returns c =
-    let f = first_share c.args.balance c.args.total in
-    filling_done c.loop-i.i (length c.args.demands.now) c.loop-i.shares c.args.shares.now
-    (dealt f c.args.bound c.loop-i.left (drop c.loop-i.i c.args.demands.now)) (dealt f c.args.bound c.args.left c.args.demands.now) (omega arith)
-    (at_drop_all (dealt f c.args.bound c.loop-i.left) c.args.demands.now c.loop-i.i c.loop-i-test.false) c.loop-i.invariant
+    let d = c.args.self.now in
+    let f = first_share d.balance d.total in
+    filling_done c.loop-i.i (length d.demands.now) c.loop-i.shares c.args.shares.now
+    (dealt f c.args.bound c.loop-i.left (drop c.loop-i.i d.demands.now)) (dealt f c.args.bound c.args.left d.demands.now) (omega arith)
+    (at_drop_all (dealt f c.args.bound c.loop-i.left) d.demands.now c.loop-i.i c.loop-i-test.false) c.loop-i.invariant
