@@ -1,5 +1,5 @@
 // What is wrong with the words that the program was given.
-use std::alloc::AllocError;
+use std::alloc::{AllocError, AllocFailed};
 use std::fmt;
 use terms::fault::ShareFault;
 
@@ -19,6 +19,12 @@ pub enum Complaint {
 
 impl From<AllocError> for Complaint {
     fn from(_e: AllocError) -> Complaint {
+        Complaint::NoMemory
+    }
+}
+
+impl<T: Drop> From<AllocFailed<T>> for Complaint {
+    fn from(_e: AllocFailed<T>) -> Complaint {
         Complaint::NoMemory
     }
 }

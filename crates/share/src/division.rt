@@ -1,11 +1,28 @@
 // The division that the words ask for.
 use crate::complaint::Complaint;
 use std::alloc::Global;
+use std::str::FromStr;
 
 #[derive(Clone, Copy)]
 pub enum Rule {
     ProRata,
     InArrivalOrder,
+}
+
+// A word that names no rule.
+#[derive(Clone, Copy)]
+pub struct NoRule;
+
+impl FromStr for Rule {
+    type Err = NoRule;
+
+    fn from_str(word: &str) -> Result<Rule, NoRule> {
+        match word {
+            "pro-rata" => Ok(Rule::ProRata),
+            "arrival" => Ok(Rule::InArrivalOrder),
+            _ => Err(NoRule),
+        }
+    }
 }
 
 #[derive(Drop)]
@@ -15,12 +32,11 @@ pub struct Division {
     pub demands: Vec<u32>,
 }
 
-// The rule of a word.
-fn rule_of(word: &str) -> Option<Rule> {
-    match word {
-        "pro-rata" => Some(Rule::ProRata),
-        "arrival" => Some(Rule::InArrivalOrder),
-        _ => None,
+// The rule that the first word names.
+fn rule_of(heap: Global, word: &str) -> Result<Rule, Complaint> {
+    match word.parse::<Rule>() {
+        Ok(rule) => Ok(rule),
+        Err(NoRule) => Err(Complaint::NotARule(1, String::from_str(heap, word)?)),
     }
 }
 
@@ -34,22 +50,13 @@ fn number_of(heap: Global, place: usize, word: &str) -> Result<u32, Complaint> {
 
 // The rule, the balance and the demands.
 pub fn read(heap: Global, words: &[String]) -> Result<Division, Complaint> {
-    let Some(first) = words.get(0) else {
-        return Err(Complaint::NoRule);
-    };
-    let Some(rule) = rule_of(first.as_str()) else {
-        return Err(Complaint::NotARule(1, String::from_str(heap, first.as_str())?));
-    };
-    let Some(second) = words.get(1) else {
-        return Err(Complaint::NoBalance);
-    };
+    let first = words.first().ok_or(Complaint::NoRule)?;
+    let rule = rule_of(heap, first.as_str())?;
+    let second = words.get(1).ok_or(Complaint::NoBalance)?;
     let balance = number_of(heap, 2, second.as_str())?;
     let mut demands = Vec::new(heap);
     for (i, word) in words.iter().enumerate().skip(2) {
-        let demand = number_of(heap, i.saturating_add(1), word.as_str())?;
-        if demands.push(demand).is_err() {
-            return Err(Complaint::NoMemory);
-        }
+        demands.push(number_of(heap, i.saturating_add(1), word.as_str())?)?;
     }
     Ok(Division {
         rule,

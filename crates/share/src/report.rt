@@ -22,10 +22,10 @@ pub fn run(heap: Global, words: &[String]) -> Result<String, Complaint> {
         Ok(()) => Ok(report(heap, &division, firsts.as_slice(), shares.as_slice())?),
         Err(fault) => {
             let place = blamed(fault, division.demands.as_slice());
-            let word = match words.get(place.saturating_sub(1)) {
-                Some(word) => String::from_str(heap, word.as_str())?,
-                None => String::from_str(heap, "")?,
-            };
+            let word = words
+                .get(place.saturating_sub(1))
+                .map_or("", |word| word.as_str());
+            let word = String::from_str(heap, word)?;
             Err(Complaint::Refused(fault, place, word))
         }
     }
@@ -50,16 +50,30 @@ fn divide(division: &Division, firsts: &mut [u32], shares: &mut [u32]) -> Result
 // The place of the word that a refusal is about: a demand that is out of range, the first demand too many, or else the balance.
 fn blamed(fault: ShareFault, demands: &[u32]) -> usize {
     match fault {
-        ShareFault::Lots => {
-            for (i, d) in demands.iter().enumerate() {
-                if *d < 1 || *d > 1_000_000_000 {
-                    return i.saturating_add(3);
-                }
-            }
-            2
-        }
+        ShareFault::Lots => demands
+            .iter()
+            .position(|d| !(1..=1_000_000_000).contains(d))
+            .map_or(2, |i| i.saturating_add(3)),
         ShareFault::ManyDemands => 4_096 + 3,
         ShareFault::ShortTable => 2,
+    }
+}
+
+// What a line shows: a demand, its first share and its share, or their sums.
+#[derive(Clone, Copy, Default)]
+struct Lots {
+    demand: u64,
+    first: u64,
+    share: u64,
+}
+
+impl Lots {
+    fn plus(self, other: Lots) -> Lots {
+        Lots {
+            demand: self.demand.saturating_add(other.demand),
+            first: self.first.saturating_add(other.first),
+            share: self.share.saturating_add(other.share),
+        }
     }
 }
 
@@ -71,25 +85,24 @@ fn report(
     shares: &[u32],
 ) -> Result<String, AllocError> {
     let mut text = String::from_str(heap, head(division.rule))?;
-    let mut sums = (0u64, 0u64, 0u64);
-    for (i, ((demand, start), share)) in division
+    let mut sums = Lots::default();
+    for (i, ((demand, first), share)) in division
         .demands
         .iter()
         .zip(firsts.iter())
         .zip(shares.iter())
         .enumerate()
     {
-        let (demand, start, share) = (*demand as u64, *start as u64, *share as u64);
+        let lots = Lots {
+            demand: *demand as u64,
+            first: *first as u64,
+            share: *share as u64,
+        };
         let place = format!(in heap; "{}", i.saturating_add(1))?;
-        text.push_str(line(heap, division.rule, place.as_str(), demand, start, share)?.as_str())?;
-        sums = (
-            sums.0.saturating_add(demand),
-            sums.1.saturating_add(start),
-            sums.2.saturating_add(share),
-        );
+        text.push_str(line(heap, division.rule, place.as_str(), lots)?.as_str())?;
+        sums = sums.plus(lots);
     }
-    let (demand, start, share) = sums;
-    text.push_str(line(heap, division.rule, "sum", demand, start, share)?.as_str())?;
+    text.push_str(line(heap, division.rule, "sum", sums)?.as_str())?;
     Ok(text)
 }
 
@@ -101,16 +114,14 @@ fn head(rule: Rule) -> &'static str {
     }
 }
 
-fn line(
-    heap: Global,
-    rule: Rule,
-    place: &str,
-    demand: u64,
-    start: u64,
-    share: u64,
-) -> Result<String, AllocError> {
+fn line(heap: Global, rule: Rule, place: &str, lots: Lots) -> Result<String, AllocError> {
+    let Lots {
+        demand,
+        first,
+        share,
+    } = lots;
     match rule {
-        Rule::ProRata => format!(in heap; "{place:>5} {demand:>13} {start:>13} {share:>13}\n"),
+        Rule::ProRata => format!(in heap; "{place:>5} {demand:>13} {first:>13} {share:>13}\n"),
         Rule::InArrivalOrder => format!(in heap; "{place:>5} {demand:>13} {share:>13}\n"),
     }
 }
