@@ -1,9 +1,10 @@
 -- The place of the row whose bid stands under a number.
-use Rattle.std.proofs.Common.{◌≡◌, ℕ, zero, suc, ◌+◌, ◌<◌, ◌≤◌, Bool, true, false, cond, ◌&&◌, eqb, List, [], ◌∷◌, length, get_or, take, drop, set, Some, None, Option, sym, refl, ap, ◌∙◌, arith}
+use Rattle.std.proofs.Common.{nat_lt, ◌≡◌, ℕ, zero, suc, ◌+◌, ◌<◌, ◌≤◌, Bool, true, false, cond, ◌&&◌, eqb, List, [], ◌∷◌, length, get_or, take, set, Some, None, Option, refl, ap, ◌∙◌, arith}
 use Rattle.std.specs.Option.{option_map}
-use Rattle.std.specs.List.{remove}
-use Rattle.std.proofs.lemmas.List.{at_drop_more, get_or-take, length-take-le}
+use Rattle.std.specs.List.{remove, position, position_or_len}
+use Rattle.std.proofs.lemmas.List.{get_or-take, length-take-le}
 use Rattle.std.proofs.lemmas.Bool.{and_parts, eqb-true}
+use Rattle.std.proofs.lemmas.Bool.Decides.{nat_tests}
 use Rattle.award.specs.declared.row.Row.{Row}
 use Rattle.award.specs.Award.{Bid}
 use Rattle.award.specs.Rows.{bid_in, standing}
@@ -11,36 +12,23 @@ use Rattle.book.specs.Table.{bid_of}
 use Rattle.book.specs.Steps.{stands_as, withdrawn_row, without_row, withdrawn_in}
 use Rattle.book.specs.Places.{place_of}
 
--- a place counted from another place on
-abbrev pub from : ℕ → Option ℕ → Option ℕ
-from i o = option_map (λ k. i + k) o
-
-from_next : (i : ℕ) (o : Option ℕ) → from i (option_map suc o) ≡ from (i + 1) o
-from_next i None = refl
-from_next i (Some k) = ap Some (omega arith)
-
-pub from_all : (o : Option ℕ) → from 0 o ≡ o
-from_all None = refl
-from_all (Some k) = ap Some (omega arith)
+one_later : (b : Bool) (k : ℕ) → cond {A = Option ℕ} b (Some (1 + k)) None ≡ option_map suc (cond {A = Option ℕ} b (Some k) None)
+one_later true k = ap Some (omega arith)
+one_later false k = refl
 
 module _ {Q : Type 0} (n : ℕ) where
-  first_left : (rows : List (Row Q)) (i : ℕ) (r : Row Q) → i < length rows → r ≡ get_or rows i r
-      → place_of n (drop i rows) ≡ cond (stands_as n r) (Some 0) (option_map suc (place_of n (drop (i + 1) rows)))
-  first_left rows i r within read =
-      at_drop_more (place_of n) rows i r within ∙ ap (λ x. cond (stands_as n x) (Some 0) (option_map suc (place_of n (drop (i + 1) rows)))) (sym read)
+  place_first : (r : Row Q) (rows : List (Row Q)) (b : Bool) → stands_as n r ≡ b → position (stands_as n) rows ≡ place_of n rows
+      → position (stands_as n) (r ∷ rows) ≡ place_of n (r ∷ rows)
+  place_first r rows true is e = let some : nat_lt 0 (suc (length rows)) ≡ true = grind (arith, nat_tests) in rw (is, some) refl
+  place_first r rows false is e =
+      let k : ℕ = position_or_len (stands_as n) rows in
+      let same : nat_lt (1 + k) (suc (length rows)) ≡ nat_lt k (length rows) = grind (arith, nat_tests) in
+      rw is (ap (λ b. cond {A = Option ℕ} b (Some (1 + k)) None) same ∙ one_later (nat_lt k (length rows)) k ∙ ap (option_map suc) e)
 
-  -- the row at hand is the one
-  pub place_here : (rows : List (Row Q)) (i : ℕ) (r : Row Q) → i < length rows → r ≡ get_or rows i r → true ≡ stands_as n r
-      → from i (place_of n (drop i rows)) ≡ Some i
-  place_here rows i r within read is =
-      ap (from i) (first_left rows i r within read ∙ ap (λ b. cond b (Some 0) (option_map suc (place_of n (drop (i + 1) rows)))) (sym is)) ∙ ap Some (omega arith)
-
-  -- the row at hand is not
-  pub place_later : (rows : List (Row Q)) (i : ℕ) (r : Row Q) → i < length rows → r ≡ get_or rows i r → false ≡ stands_as n r
-      → from i (place_of n (drop i rows)) ≡ from (i + 1) (place_of n (drop (i + 1) rows))
-  place_later rows i r within read is =
-      ap (from i) (first_left rows i r within read ∙ ap (λ b. cond b (Some 0) (option_map suc (place_of n (drop (i + 1) rows)))) (sym is))
-      ∙ from_next i (place_of n (drop (i + 1) rows))
+  -- the place is the first index that passes
+  pub place_is : (rows : List (Row Q)) → position (stands_as n) rows ≡ place_of n rows
+  place_is [] = refl
+  place_is (r ∷ rows) = place_first r rows (stands_as n r) refl (place_is rows)
 
   -- the row at a place is the first whose bid stands under the number
   abbrev pub At : List (Row Q) → ℕ → Type 0

@@ -3,4 +3,3 @@ pub mod Fitting
 pub mod Moving
 pub mod Naming
 pub mod Awarding
-pub mod Telling

@@ -1,8 +1,9 @@
 -- Rows written, moved up and marked in the table, as the calls do it.
-use Rattle.std.proofs.Common.{◌≡◌, ℕ, suc, ◌+◌, ◌-◌, ◌<◌, ◌≤◌, List, [], ◌∷◌, ◌++◌, length, get_or, take, drop, set, Some, sym, ap, ◌∙◌, arith}
-use Rattle.std.specs.List.{remove}
-use Rattle.std.proofs.lemmas.List.{append_assoc, drop-append-le, drop_more, get_or-append_right, get_or-drop, get_or-take, length-append, length-drop, length_push, length-set, length-take-le, set-append_left, set_at, set_split, take-append-drop, take-append-le, take_at, take_more}
-use Rattle.std.proofs.lemmas.List.Edits.{get_or-remove_above, length-remove}
+use Rattle.std.proofs.Common.{◌≡◌, ℕ, suc, ◌+◌, ◌-◌, ◌<◌, ◌≤◌, List, [], ◌∷◌, ◌++◌, length, get_or, take, drop, set, Some, sym, ap, ◌∙◌, add-one, arith}
+use Rattle.std.specs.List.{remove, copy_within}
+use Rattle.std.proofs.lemmas.List.{append_assoc, drop-append-le, drop_more, get_or-take, length_push, length-set, length-take-le, set-append_left, set_at, set_split, take-append-drop, take-append-le, take_at}
+use Rattle.std.proofs.lemmas.List.Edits.{length-remove}
+use Rattle.std.proofs.Math.Seq.{take-append-add}
 use Rattle.award.specs.declared.row.Row.{Row}
 use Rattle.book.specs.Steps.{withdrawn_row, without_row, withdrawn_in, rows_with}
 use Rattle.book.specs.Places.{place_of, closing}
@@ -29,36 +30,19 @@ module _ {Q : Type 0} (rows : List (Row Q)) (used : ℕ) where
       ap (λ rs. set rs at r) (sym (take-append-drop used rows)) ∙ set-append_left (take used rows) (drop used rows) at r (omega arith)
       ∙ ap (λ k. set (take used rows) at r ++ drop k rows) same
 
-module _ {X : Type 0} (old : List X) (at : ℕ) (within : at < length old) where
-  -- no row has moved yet
-  pub closing_none : old ≡ closing old at at
-  closing_none =
-      let front = take_at (take at old) (drop (suc at) old) at (length-take-le at old (omega arith)) in
-      sym (take-append-drop at old) ∙ ap (λ xs. xs ++ drop at old) (sym front)
-
-  -- one row more has moved
-  pub closing_more : (k : ℕ) (d : X) (now : List X) → now ≡ closing old at k → at ≤ k → k + 1 < length old
-      → set now k (get_or now (k + 1) d) ≡ closing old at (k + 1)
-  closing_more k d now e from more =
-      let short = length-remove old at within in
-      let len : length (take k (remove old at)) ≡ k = length-take-le k (remove old at) (omega arith) in
-      let read : get_or (closing old at k) (k + 1) d ≡ get_or old (k + 1) d =
-      get_or-append_right (take k (remove old at)) (drop k old) k (k + 1) d len (omega arith) ∙ get_or-drop k old (k + 1 - k) d ∙ ap (λ j. get_or old j d) (omega arith) in
-      let write : set (closing old at k) k (get_or old (k + 1) d) ≡ take k (remove old at) ++ get_or old (k + 1) d ∷ drop (k + 1) old =
-      ap (λ xs. set (take k (remove old at) ++ xs) k (get_or old (k + 1) d)) (drop_more old k d (omega arith))
-      ∙ set_at (take k (remove old at)) (get_or old k d) (drop (k + 1) old) (get_or old (k + 1) d) k len in
-      let next : take (k + 1) (remove old at) ≡ take k (remove old at) ++ get_or old (k + 1) d ∷ [] =
-      take_more (remove old at) k d (omega arith) ∙ ap (λ x. take k (remove old at) ++ x ∷ []) (get_or-remove_above old at d k from within) in
-      ap (λ xs. set xs k (get_or xs (k + 1) d)) e ∙ ap (λ x. set (closing old at k) k x) read ∙ write
-      ∙ sym (append_assoc (take k (remove old at)) (get_or old (k + 1) d ∷ []) (drop (k + 1) old)) ∙ ap (λ xs. xs ++ drop (k + 1) old) (sym next)
-
-  pub closing_length : (k : ℕ) → k < length old → length (closing old at k) ≡ length old
-  closing_length k h =
-      let short = length-remove old at within in
-      let front : length (take k (remove old at)) ≡ k = length-take-le k (remove old at) (omega arith) in
-      let whole = length-append (take k (remove old at)) (drop k old) in
-      let back = length-drop k old in
-      omega arith
+-- the rows behind a place, as far as another, are copied to it
+pub closing_copied : {X : Type 0} (old : List X) (at used : ℕ) → at < used → used ≤ length old → copy_within old (at + 1) used at ≡ closing old at (used - 1)
+closing_copied old at used in_front room =
+    let front : length (take at old) ≡ at = length-take-le at old (omega arith) in
+    let next : drop (at + 1) old ≡ drop (suc at) old = ap (λ k. drop k old) (add-one at) in
+    let many : used - (at + 1) ≡ used - 1 - at = omega arith in
+    let end : at + (used - (at + 1)) ≡ used - 1 = omega arith in
+    let split : used - 1 ≡ length (take at old) + (used - 1 - at) = omega arith in
+    ap (λ k. (take at old ++ take (used - (at + 1)) (drop (at + 1) old)) ++ drop k old) end
+    ∙ ap (λ xs. (take at old ++ take (used - (at + 1)) xs) ++ drop (used - 1) old) next
+    ∙ ap (λ k. (take at old ++ take k (drop (suc at) old)) ++ drop (used - 1) old) many
+    ∙ ap (λ xs. xs ++ drop (used - 1) old)
+    (sym (ap (λ k. take k (take at old ++ drop (suc at) old)) split ∙ take-append-add (take at old) (drop (suc at) old) (used - 1 - at)))
 
 -- the last used row is written after the rows behind a place have moved up
 module _ {Q : Type 0} (rows : List (Row Q)) (used at : ℕ) (in_front : at < used) (fit : used ≤ length rows) where

@@ -8,3 +8,4 @@ pub mod Told
 pub mod Views
 pub mod Judging
 pub mod Places
+pub mod Books

@@ -1,10 +1,11 @@
 -- A book as a value: its sheet.
 use Rattle.std.specs.Prelude.{ℕ, List, take, ℤ, None, Option}
+use Rattle.std.specs.Option.{option_and_then}
 use Rattle.terms.specs.declared.notice.Notice.{Notice}
 use Rattle.award.specs.declared.row.Row.{Row}
 use Rattle.award.specs.Rows.{standing}
 use Rattle.book.specs.declared.state.State.{State}
-use Rattle.book.specs.declared.state.State.TheVariants.{Open, Closed, Awarded, Void}
+use Rattle.book.specs.declared.state.State.TheVariants.{Open, Closed, Decided}
 use Rattle.book.specs.Table.{Phase, taking_bids, awaiting_limit, decided, Past}
 
 pub record Sheet (Q : Type 0) : Type 0 where
@@ -24,20 +25,17 @@ in_use s = take s.used s.rows
 abbrev pub phase_of : State → Phase
 phase_of Open = taking_bids
 phase_of Closed = awaiting_limit
-phase_of (Awarded limit cut) = decided
-phase_of (Void limit) = decided
+phase_of (Decided limit cut) = decided
 
 abbrev pub limit_of : {Q : Type 0} → (ℤ → Option Q) → State → Option Q
 limit_of read Open = None
 limit_of read Closed = None
-limit_of read (Awarded limit cut) = read limit
-limit_of read (Void limit) = read limit
+limit_of read (Decided limit cut) = read limit
 
 abbrev pub cut_of : {Q : Type 0} → (ℤ → Option Q) → State → Option Q
 cut_of read Open = None
 cut_of read Closed = None
-cut_of read (Awarded limit cut) = read cut
-cut_of read (Void limit) = None
+cut_of read (Decided limit cut) = option_and_then read cut
 
 -- what the table of refusals judges a sheet by
 abbrev pub past_of : {Q : Type 0} → (ℤ → Option Q) → Sheet Q → Past Q

@@ -1,5 +1,6 @@
 -- What an event does to a book, and what it answers.
 use Rattle.std.specs.Prelude.{ℕ, ◌+◌, Bool, true, false, cond, ◌&&◌, List, [], ◌∷◌, ◌++◌, length, drop, ℤ, Some, None, Ok, Err, Option, Result, ◌==◌}
+use Rattle.std.specs.Option.{option_map}
 use Rattle.terms.specs.Grounds.{first}
 use Rattle.award.specs.declared.row.Row.{Row}
 use Rattle.award.specs.Award.{cut_off, allotments}
@@ -8,7 +9,7 @@ use Rattle.book.specs.declared.event.Event.{Event}
 use Rattle.book.specs.declared.event.Event.TheVariants.{Entry, Change, Withdrawal, Close, Limit}
 use Rattle.book.specs.declared.fault.BookFault.{BookFault}
 use Rattle.book.specs.declared.state.State.{State}
-use Rattle.book.specs.declared.state.State.TheVariants.{Closed, Awarded, Void}
+use Rattle.book.specs.declared.state.State.TheVariants.{Closed, Decided}
 use Rattle.book.specs.Table.{grounds, answer}
 use Rattle.book.specs.Questions.{terms_of}
 use Rattle.book.specs.Sheets.{Sheet, in_use, past_of}
@@ -87,19 +88,18 @@ module _ {Q : Type 0} where
   judged None s after n = (after, Ok n)
   judged (Some f) s after n = (s, Err f)
 
-module _ {Q : Type 0} (number : Q → ℤ) (read : ℤ → Option Q) (no_worse : Q → Q → Bool) (share : List ℕ → ℕ → List ℕ) where
-  -- the state after an award, by the limit and the cut-off
-  abbrev pub state_by : Q → Option Q → State
-  state_by limit None = Void (number limit)
-  state_by limit (Some cut) = Awarded (number limit) (number cut)
+-- the state after an award, by the limit and the cut-off
+abbrev pub state_by : {Q : Type 0} → (Q → ℤ) → Q → Option Q → State
+state_by number limit cut = Decided (number limit) (option_map number cut)
 
+module _ {Q : Type 0} (number : Q → ℤ) (read : ℤ → Option Q) (no_worse : Q → Q → Bool) (share : List ℕ → ℕ → List ℕ) where
   -- a limit awards: each used row has its allotment
   abbrev pub with_limit : Sheet Q → Option Q → Sheet Q
   with_limit s None = s
   with_limit s (Some limit) =
       record {
         notice = s.notice;
-        state = state_by limit (cut_off no_worse (terms_of s.notice) limit (standing (in_use s)));
+        state = state_by number limit (cut_off no_worse (terms_of s.notice) limit (standing (in_use s)));
         used = s.used;
         arrivals = s.arrivals;
         last = s.last;

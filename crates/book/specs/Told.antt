@@ -1,5 +1,6 @@
 -- What a book tells, as it reads it off its rows.
-use Rattle.std.specs.Prelude.{ℕ, Bool, cond, List, [], ◌∷◌, length, ℤ, Some, None, sum_by, Option, Result, ◌==◌}
+use Rattle.std.specs.Prelude.{ℕ, Bool, cond, List, length, ℤ, Some, None, sum_by, Option, Result, ◌==◌}
+use Rattle.std.specs.List.{find}
 use Rattle.terms.specs.Grounds.{first}
 use Rattle.award.specs.declared.row.Row.{Row}
 use Rattle.award.specs.Rows.{standing}
@@ -13,8 +14,7 @@ use Rattle.book.specs.Sheets.{Sheet, in_use, phase_of, limit_of, cut_of, past_of
 
 -- the row of a number, withdrawn or not
 abbrev pub row_of : {Q : Type 0} → ℕ → List (Row Q) → Option (Row Q)
-row_of n [] = None
-row_of n (r ∷ rows) = cond (r.number == n) (Some r) (row_of n rows)
+row_of n = find (λ r. r.number == n)
 
 abbrev pub allotted_in : {Q : Type 0} → Option (Row Q) → ℕ
 allotted_in None = 0

@@ -5,8 +5,9 @@ ghost use Rattle.book.specs.declared.event.Event.TheVariants.{Change};
 ghost use Rattle.book.specs.Sheets.{in_use};
 ghost use Rattle.book.specs.Steps.{with_change};
 ghost use Rattle.book.specs.Places.{place_of, closing, on_rows};
-ghost use Rattle.book.specs.Judging.{against, Judgement};
+ghost use Rattle.book.specs.Judging.{Judgement};
 ghost use Rattle.book.specs.Views.{view};
+ghost use Rattle.book.specs.Books.{Becomes, objection};
 
 use crate::book::Book;
 use crate::fault::BookFault;
@@ -32,7 +33,7 @@ impl<'a, S: Sale> Book<'a, S> {
         quote: i32,
         lots: u32,
     ) -> Result<Replacement<S::Quote>, BookFault>
-        ensures { Judgement (against S.Quote.Quote.read 0 0 (view self.now) (Change number house second quote lots)) (λ c. (place_of number (in_use (view self.now)) ≡ Present c.at) × (S.Quote.Quote.read quote ≡ Present c.quote)) result }
+        ensures { Judgement (objection self.now (Change number house second quote lots)) (λ c. (place_of number (in_use (view self.now)) ≡ Present c.at) × (S.Quote.Quote.read quote ≡ Present c.quote)) result }
     {
         if !is_house(house) {
             return Err(BookFault::HouseOutOfRange);
@@ -54,21 +55,16 @@ impl<'a, S: Sale> Book<'a, S> {
     // Moves the used rows behind a place up by one.
     fn close_gap(&mut self, at: usize)
         requires { at < self.old.used }
-        ensures after { view self.new ≡ on_rows (view self.old) (closing self.old.rows.now at (self.old.used - 1)) }
-        ensures same { self.new.rows.ghost_name ≡ self.old.rows.ghost_name }
+        ensures { Becomes self.old self.new (on_rows (view self.old) (closing self.old.rows.now at (self.old.used - 1))) }
     {
-        for k in at..(self.used - 1) as usize {
-            let row = self.rows[k + 1];
-            self.rows[k] = row;
-        }
+        self.rows.copy_within(at + 1..self.used as usize, at);
     }
 
     // Writes a row.
     fn put(&mut self, at: usize, row: Row<S::Quote>)
         requires place { at < length self.old.rows.now }
         requires lots { demand_fits row.lots ≡ true }
-        ensures after { view self.new ≡ on_rows (view self.old) (slice_set self.old.rows.now at row) }
-        ensures same { self.new.rows.ghost_name ≡ self.old.rows.ghost_name }
+        ensures { Becomes self.old self.new (on_rows (view self.old) (slice_set self.old.rows.now at row)) }
     {
         self.rows[at] = row;
     }
@@ -86,8 +82,7 @@ impl<'a, S: Sale> Book<'a, S> {
         requires found { place_of number (in_use (view self.old)) ≡ Present at }
         requires places { self.old.arrivals < 1_000_000 }
         requires lots { demand_fits lots ≡ true }
-        ensures after { view self.new ≡ with_change (view self.old) number house second lots (Present quote) }
-        ensures same { self.new.rows.ghost_name ≡ self.old.rows.ghost_name }
+        ensures { Becomes self.old self.new (with_change (view self.old) number house second lots (Present quote)) }
     {
         let last = (self.used - 1) as usize;
         self.close_gap(at);

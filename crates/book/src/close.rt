@@ -2,12 +2,12 @@
 ghost use Rattle.std.specs.Prelude.{◌≡◌, Some as Present};
 ghost use Rattle.book.specs.declared.event.Event.TheVariants.{Close};
 ghost use Rattle.book.specs.Steps.{with_close};
-ghost use Rattle.book.specs.Judging.{against, Judgement};
+ghost use Rattle.book.specs.Judging.{Judgement};
 ghost use Rattle.book.specs.Views.{view};
+ghost use Rattle.book.specs.Books.{Becomes, objection};
 
 use crate::book::Book;
 use crate::fault::BookFault;
-use crate::range::within;
 use crate::sale::Sale;
 use crate::state::State;
 
@@ -17,9 +17,9 @@ const LAST_SECOND: u32 = 86_399;
 impl<'a, S: Sale> Book<'a, S> {
     // Judges the close of an open book.
     pub(crate) fn judge_close(&self, second: u32) -> Result<(), BookFault>
-        ensures { Judgement (against S.Quote.Quote.read 0 0 (view self.now) (Close second)) (λ _. Unit {0}) result }
+        ensures { Judgement (objection self.now (Close second)) (λ _. Unit {0}) result }
     {
-        if !within(self.notice().closing, second, LAST_SECOND) {
+        if !(self.notice().closing..=LAST_SECOND).contains(&second) {
             return Err(BookFault::SecondOutOfRange);
         }
         Ok(())
@@ -27,8 +27,7 @@ impl<'a, S: Sale> Book<'a, S> {
 
     // Ends the taking of bids.
     pub(crate) fn shut(&mut self)
-        ensures after { view self.new ≡ with_close (view self.old) }
-        ensures same { self.new.rows.ghost_name ≡ self.old.rows.ghost_name }
+        ensures { Becomes self.old self.new (with_close (view self.old)) }
     {
         self.state = State::Closed;
     }

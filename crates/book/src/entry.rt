@@ -3,8 +3,9 @@ ghost use Rattle.std.specs.Prelude.{◌≡◌, ◌+◌, ◌<◌, true, length, S
 ghost use Rattle.terms.specs.Sharing.{demand_fits};
 ghost use Rattle.book.specs.declared.event.Event.TheVariants.{Entry};
 ghost use Rattle.book.specs.Steps.{with_entry};
-ghost use Rattle.book.specs.Judging.{against, Judgement};
+ghost use Rattle.book.specs.Judging.{Judgement};
 ghost use Rattle.book.specs.Views.{view};
+ghost use Rattle.book.specs.Books.{Becomes, objection};
 
 use crate::book::Book;
 use crate::fault::BookFault;
@@ -24,7 +25,7 @@ impl<'a, S: Sale> Book<'a, S> {
         quote: i32,
         lots: u32,
     ) -> Result<S::Quote, BookFault>
-        ensures { Judgement (against S.Quote.Quote.read 0 0 (view self.now) (Entry series house second quote lots)) (λ q. S.Quote.Quote.read quote ≡ Present q) result }
+        ensures { Judgement (objection self.now (Entry series house second quote lots)) (λ q. S.Quote.Quote.read quote ≡ Present q) result }
     {
         if !same_series(series, self.notice().series) {
             return Err(BookFault::OtherSeries);
@@ -55,8 +56,7 @@ impl<'a, S: Sale> Book<'a, S> {
         requires places { self.old.arrivals < 1_000_000 }
         requires lots { demand_fits lots ≡ true }
         ensures result { result ≡ self.old.used + 1 }
-        ensures after { view self.new ≡ with_entry (view self.old) house second lots (Present quote) }
-        ensures same { self.new.rows.ghost_name ≡ self.old.rows.ghost_name }
+        ensures book { Becomes self.old self.new (with_entry (view self.old) house second lots (Present quote)) }
     {
         let at = self.rows_used() as usize;
         let number = self.next_number();

@@ -9,27 +9,27 @@ use terms::fault::QuoteFault;
 #[derive(Clone, Copy, PartialEq, Eq, Debug)]
 pub enum BookFault {
     // The call is not taken in this state.
-    NotInThisState,
+    NotInThisState = 6,
     // The series is not the notice's.
-    OtherSeries,
+    OtherSeries = 7,
     // The house code is not 1 to 9,999.
-    HouseOutOfRange,
+    HouseOutOfRange = 8,
     // The number is no quote of the kind.
-    QuoteOutOfRange,
+    QuoteOutOfRange = 9,
     // The lots are below the minimum bid or above the offer.
-    LotsOutOfRange,
+    LotsOutOfRange = 10,
     // The number was never given, or its bid does not stand any more.
-    NoSuchBid,
+    NoSuchBid = 11,
     // The bid is another house's.
-    OtherHouse,
+    OtherHouse = 12,
     // The second is outside the span in which the call is taken, or before the last accepted one.
-    SecondOutOfRange,
+    SecondOutOfRange = 13,
     // Every row is used.
-    NoRowLeft,
+    NoRowLeft = 14,
     // Every arrival place is given.
-    NoPlaceLeft,
+    NoPlaceLeft = 15,
     // A work table is shorter than the bids entered.
-    ShortTable,
+    ShortTable = 16,
 }
 
 impl BookFault {
@@ -37,19 +37,7 @@ impl BookFault {
     pub fn number(self) -> u8
         ensures { result ≡ book_fault_number self }
     {
-        match self {
-            BookFault::NotInThisState => 6,
-            BookFault::OtherSeries => 7,
-            BookFault::HouseOutOfRange => 8,
-            BookFault::QuoteOutOfRange => 9,
-            BookFault::LotsOutOfRange => 10,
-            BookFault::NoSuchBid => 11,
-            BookFault::OtherHouse => 12,
-            BookFault::SecondOutOfRange => 13,
-            BookFault::NoRowLeft => 14,
-            BookFault::NoPlaceLeft => 15,
-            BookFault::ShortTable => 16,
-        }
+        self as u8
     }
 }
 

@@ -1,12 +1,11 @@
 // The figures that calls are judged by.
-ghost use Rattle.std.specs.Prelude.{◌≡◌, ◌+◌, length, nat_le};
+ghost use Rattle.std.specs.Prelude.{◌≡◌, ◌+◌, nat_le};
 ghost use Rattle.terms.specs.Tests.{between};
-ghost use Rattle.book.specs.Table.{rows_used, numbers_given, rows_there, timely};
-ghost use Rattle.book.specs.Sheets.{past_of};
+ghost use Rattle.book.specs.Table.{rows_used, numbers_given};
 ghost use Rattle.book.specs.Views.{view};
+ghost use Rattle.book.specs.Books.{past, room, timely_in};
 
 use crate::book::Book;
-use crate::range::within;
 use crate::sale::Sale;
 use terms::notice::Notice;
 
@@ -26,28 +25,28 @@ impl<'a, S: Sale> Book<'a, S> {
 
     // How many bids were entered, withdrawn ones too.
     pub fn bids_entered(&self) -> u32
-        ensures { result ≡ (past_of S.Quote.Quote.read (view self.now)).entered }
+        ensures { result ≡ (past self.now).entered }
     {
         self.used
     }
 
     // How many rows are used: each bid entered keeps its own.
     pub(crate) fn rows_used(&self) -> u32
-        ensures { result ≡ rows_used (past_of S.Quote.Quote.read (view self.now)) }
+        ensures { result ≡ rows_used (past self.now) }
     {
         self.used
     }
 
     // How many numbers are given: each bid entered keeps its own.
     pub(crate) fn numbers_given(&self) -> u32
-        ensures { result ≡ numbers_given (past_of S.Quote.Quote.read (view self.now)) }
+        ensures { result ≡ numbers_given (past self.now) }
     {
         self.used
     }
 
     // The number of the next bid.
     pub(crate) fn next_number(&self) -> u32
-        ensures { result ≡ numbers_given (past_of S.Quote.Quote.read (view self.now)) + 1 }
+        ensures { result ≡ numbers_given (past self.now) + 1 }
     {
         self.numbers_given() + 1
     }
@@ -57,20 +56,20 @@ impl<'a, S: Sale> Book<'a, S> {
         ensures { result ≡ between (view self.now).notice.minimum lots (view self.now).notice.offer }
     {
         let notice = self.notice();
-        within(notice.minimum, lots, notice.offer)
+        (notice.minimum..=notice.offer).contains(&lots)
     }
 
     // Whether bids are taken at a second, which is not before the last accepted one.
     pub(crate) fn is_timely(&self, second: u32) -> bool
-        ensures { result ≡ timely S.Quote.Quote.read (view self.now).notice (length (view self.now).rows) (past_of S.Quote.Quote.read (view self.now)) second }
+        ensures { result ≡ timely_in self.now second }
     {
         let notice = self.notice();
-        within(notice.opening, second, notice.closing) && self.last <= second
+        (notice.opening..=notice.closing).contains(&second) && self.last <= second
     }
 
     // Whether every row is used.
     pub(crate) fn is_full(&self) -> bool
-        ensures { result ≡ nat_le (rows_there S.Quote.Quote.read (view self.now).notice (length (view self.now).rows)) (rows_used (past_of S.Quote.Quote.read (view self.now))) }
+        ensures { result ≡ nat_le (room self.now) (rows_used (past self.now)) }
     {
         self.rows.len().min(MOST_ROWS) <= self.rows_used() as usize
     }

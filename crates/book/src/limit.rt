@@ -2,19 +2,19 @@
 ghost use Rattle.std.specs.Prelude.{◌≡◌, ◌≤◌, true, length, take, is_err};
 ghost use Rattle.terms.specs.Grounds.{first, refused};
 ghost use Rattle.terms.specs.Sharing.{filled};
-ghost use Rattle.award.specs.Award.{cut_off};
-ghost use Rattle.award.specs.Rows.{standing, terms_of as award_terms, lots_by_row, shares_at_cut, given_to};
+ghost use Rattle.award.specs.Rows.{terms_of as award_terms, given_to};
 ghost use Rattle.book.specs.Questions.{terms_of};
-ghost use Rattle.book.specs.Sheets.{in_use};
 ghost use Rattle.book.specs.Steps.{state_by};
 ghost use Rattle.book.specs.Places.{on_rows};
-ghost use Rattle.book.specs.Judging.{Judgement, table_grounds, awarded_by};
+ghost use Rattle.book.specs.Judging.{Judgement, table_grounds};
 ghost use Rattle.book.specs.Views.{view};
+ghost use Rattle.book.specs.Books.{Becomes, limited, cut_by, lots_by, shares_by};
 
 use crate::book::Book;
 use crate::fault::BookFault;
 use crate::sale::Sale;
 use crate::state::State;
+use award::allot::allot;
 use award::award::award;
 use award::bids::Bids;
 use award::conditions::Conditions;
@@ -23,16 +23,11 @@ use terms::quote::Quote;
 impl<'a, S: Sale> Book<'a, S> {
     // The state after an award.
     fn state_by(limit: S::Quote, cut: Option<S::Quote>) -> State
-        ensures { result ≡ state_by S.Quote.Quote.number S.Quote.Quote.read S.Quote.Quote.no_worse S.Rule.SharingRule.meaning limit cut }
+        ensures { result ≡ state_by S.Quote.Quote.number limit cut }
     {
-        match cut {
-            Some(cut) => State::Awarded {
-                limit: limit.number(),
-                cut: cut.number(),
-            },
-            None => State::Void {
-                limit: limit.number(),
-            },
+        State::Decided {
+            limit: limit.number(),
+            cut: cut.map(|cut| cut.number()),
         }
     }
 
@@ -55,9 +50,9 @@ impl<'a, S: Sale> Book<'a, S> {
         demands: &mut [u32],
         shares: &mut [u32],
     ) -> Result<Option<S::Quote>, BookFault>
-        ensures answer { Judgement (first (table_grounds self.now.used (length demands.old) (length shares.old))) (λ cut. cut ≡ cut_off S.Quote.Quote.no_worse (terms_of (view self.now).notice) limit (standing (in_use (view self.now)))) result }
-        ensures lots { demands.new ≡ filled (refused result) (lots_by_row S.Quote.Quote.no_worse S.Rule.SharingRule.meaning (terms_of (view self.now).notice) limit (in_use (view self.now))) demands.old }
-        ensures shares { shares.new ≡ filled (refused result) (shares_at_cut S.Quote.Quote.no_worse S.Rule.SharingRule.meaning (terms_of (view self.now).notice) limit (in_use (view self.now))) shares.old }
+        ensures answer { Judgement (first (table_grounds self.now.used (length demands.old) (length shares.old))) (λ cut. cut ≡ cut_by self.now limit) result }
+        ensures lots { demands.new ≡ filled (refused result) (lots_by self.now limit) demands.old }
+        ensures shares { shares.new ≡ filled (refused result) (shares_by self.now limit) shares.old }
     {
         let bids = Bids {
             rows: &self.rows[0..self.used as usize],
@@ -69,12 +64,10 @@ impl<'a, S: Sale> Book<'a, S> {
     // Writes the allotments into the used rows.
     fn allot(&mut self, lots: &[u32])
         requires { self.old.used ≤ length lots.now }
-        ensures after { view self.new ≡ on_rows (view self.old) (given_to self.old.rows.now (take self.old.used lots.now)) }
-        ensures same { self.new.rows.ghost_name ≡ self.old.rows.ghost_name }
+        ensures { Becomes self.old self.new (on_rows (view self.old) (given_to self.old.rows.now (take self.old.used lots.now))) }
     {
-        for i in 0..self.used as usize {
-            self.rows[i].allotted = lots[i];
-        }
+        let used = self.used as usize;
+        allot(self.rows, &lots[0..used]);
     }
 
     // Takes a limit in a closed book.
@@ -84,10 +77,9 @@ impl<'a, S: Sale> Book<'a, S> {
         demands: &mut [u32],
         shares: &mut [u32],
     ) -> Result<u32, BookFault>
-        ensures result { result ≡ (awarded_by S.Quote.Quote.number S.Quote.Quote.read S.Quote.Quote.no_worse S.Rule.SharingRule.meaning (length demands.old) (length shares.old) (view self.old) quote).1 }
-        ensures after { view self.new ≡ (awarded_by S.Quote.Quote.number S.Quote.Quote.read S.Quote.Quote.no_worse S.Rule.SharingRule.meaning (length demands.old) (length shares.old) (view self.old) quote).0 }
+        ensures result { result ≡ (limited self.old (length demands.old) (length shares.old) quote).1 }
+        ensures book { Becomes self.old self.new (limited self.old (length demands.old) (length shares.old) quote).0 }
         ensures tables { is_err result ≡ true → (demands.new ≡ demands.old) × (shares.new ≡ shares.old) }
-        ensures same { self.new.rows.ghost_name ≡ self.old.rows.ghost_name }
     {
         let limit = S::Quote::read(quote)?;
         let cut = self.reckon(limit, demands, shares)?;

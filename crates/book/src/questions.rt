@@ -4,15 +4,15 @@ ghost use Rattle.terms.specs.Grounds.{first};
 ghost use Rattle.book.specs.Table.{is_decided, was_given};
 ghost use Rattle.book.specs.Outcomes.{outcome_by, past_limit};
 ghost use Rattle.book.specs.Questions.{number_grounds};
-ghost use Rattle.book.specs.Sheets.{in_use, phase_of, limit_of, past_of};
-ghost use Rattle.book.specs.Told.{row_of, sheet_count, sheet_placed, sheet_cut, sheet_allotment, sheet_outcome, row_outcome};
+ghost use Rattle.book.specs.Sheets.{in_use, phase_of, limit_of};
+ghost use Rattle.book.specs.Told.{row_of, sheet_count, sheet_placed};
 ghost use Rattle.book.specs.Judging.{Judgement};
 ghost use Rattle.book.specs.Views.{view};
+ghost use Rattle.book.specs.Books.{past, told_cut, told_allotment, told_outcome, told_row_outcome};
 
 use crate::book::Book;
 use crate::fault::BookFault;
 use crate::outcome::Outcome;
-use crate::range::within;
 use crate::sale::Sale;
 use crate::state::State;
 use award::demand::standing_count;
@@ -24,34 +24,21 @@ fn sum_allotted<Q: Copy>(rows: &[Row<Q>]) -> u64
     requires { length rows.now ≤ 4_096 }
     ensures { result ≡ sum_by (λ x. x.allotted) rows.now }
 {
-    let mut total: u64 = 0;
-    for i in 0..rows.len() {
-        total += rows[i].allotted as u64;
-    }
-    total
+    rows.iter().map(|row| row.allotted as u64).sum()
 }
 
 // The row of a number, withdrawn or not.
 fn row_of<Q: Copy>(rows: &[Row<Q>], number: u32) -> Option<Row<Q>>
     ensures { result ≡ row_of number rows.now }
 {
-    for i in 0..rows.len() {
-        let row = rows[i];
-        if row.number == number {
-            return Some(row);
-        }
-    }
-    None
+    rows.iter().copied().find(|row| row.number == number)
 }
 
 // Whether a quote is past a limit.
 fn is_past<Q: Quote>(limit: Option<Q>, quote: Q) -> bool
     ensures { result ≡ past_limit Q.Quote.no_worse limit quote }
 {
-    match limit {
-        Some(limit) => !quote.no_worse(limit),
-        None => false,
-    }
+    limit.is_some_and(|limit| !quote.no_worse(limit))
 }
 
 // The outcome of a standing bid.
@@ -77,10 +64,7 @@ fn outcome_by<Q: Quote>(limit: Option<Q>, cut: Option<Q>, quote: Q, asked: u32, 
 fn kept<Q: Quote>(number: i32) -> Option<Q>
     ensures { result ≡ Q.Quote.read number }
 {
-    match Q::read(number) {
-        Ok(quote) => Some(quote),
-        Err(_) => None,
-    }
+    Q::read(number).ok()
 }
 
 impl<'a, S: Sale> Book<'a, S> {
@@ -109,23 +93,16 @@ impl<'a, S: Sale> Book<'a, S> {
     pub fn is_decided(&self) -> bool
         ensures { result ≡ is_decided (phase_of (view self.now).state) }
     {
-        match self.state {
-            State::Open => false,
-            State::Closed => false,
-            State::Awarded { .. } => true,
-            State::Void { .. } => true,
-        }
+        matches!(self.state, State::Decided { .. })
     }
 
     // The cut-off; none before the award and in a void act.
     pub fn cut_off(&self) -> Option<S::Quote>
-        ensures { result ≡ sheet_cut S.Quote.Quote.read (view self.now) }
+        ensures { result ≡ told_cut self.now }
     {
         match self.state {
-            State::Open => None,
-            State::Closed => None,
-            State::Awarded { cut, .. } => kept(cut),
-            State::Void { .. } => None,
+            State::Decided { cut: Some(cut), .. } => kept(cut),
+            _ => None,
         }
     }
 
@@ -134,21 +111,19 @@ impl<'a, S: Sale> Book<'a, S> {
         ensures { result ≡ limit_of S.Quote.Quote.read (view self.now).state }
     {
         match self.state {
-            State::Open => None,
-            State::Closed => None,
-            State::Awarded { limit, .. } => kept(limit),
-            State::Void { limit } => kept(limit),
+            State::Decided { limit, .. } => kept(limit),
+            _ => None,
         }
     }
 
     // Judges a question for a number.
     fn judge_number(&self, number: u32) -> Result<(), BookFault>
-        ensures { Judgement (first (number_grounds (phase_of (view self.now).state) (was_given (past_of S.Quote.Quote.read (view self.now)) number))) (λ _. Unit {0}) result }
+        ensures { Judgement (first (number_grounds (phase_of (view self.now).state) (was_given (past self.now) number))) (λ _. Unit {0}) result }
     {
         if !self.is_decided() {
             return Err(BookFault::NotInThisState);
         }
-        if !within(1, number, self.numbers_given()) {
+        if !(1..=self.numbers_given()).contains(&number) {
             return Err(BookFault::NoSuchBid);
         }
         Ok(())
@@ -156,37 +131,31 @@ impl<'a, S: Sale> Book<'a, S> {
 
     // The outcome of the bid in a row.
     fn row_outcome(&self, row: Option<Row<S::Quote>>) -> Outcome
-        ensures { result ≡ row_outcome S.Quote.Quote.read S.Quote.Quote.no_worse (view self.now) row }
+        ensures { result ≡ told_row_outcome self.now row }
     {
-        let Some(row) = row else {
-            return Outcome::Out;
-        };
-        if !row.standing {
-            return Outcome::Out;
+        match row {
+            Some(row) if row.standing => outcome_by(
+                self.limit_taken(),
+                self.cut_off(),
+                row.quote,
+                row.lots,
+                row.allotted,
+            ),
+            _ => Outcome::Out,
         }
-        outcome_by(
-            self.limit_taken(),
-            self.cut_off(),
-            row.quote,
-            row.lots,
-            row.allotted,
-        )
     }
 
     // The lots of a number; a withdrawn bid has none. Refused before the award, and for a number that was never given.
     pub fn allotment(&self, number: u32) -> Result<u32, BookFault>
-        ensures { result ≡ sheet_allotment S.Quote.Quote.read (view self.now) number }
+        ensures { result ≡ told_allotment self.now number }
     {
         self.judge_number(number)?;
-        match self.row(number) {
-            Some(row) => Ok(row.allotted),
-            None => Ok(0),
-        }
+        Ok(self.row(number).map_or(0, |row| row.allotted))
     }
 
     // The outcome of a number. Refused before the award, and for a number that was never given.
     pub fn outcome(&self, number: u32) -> Result<Outcome, BookFault>
-        ensures { result ≡ sheet_outcome S.Quote.Quote.read S.Quote.Quote.no_worse (view self.now) number }
+        ensures { result ≡ told_outcome self.now number }
     {
         self.judge_number(number)?;
         Ok(self.row_outcome(self.row(number)))

@@ -6,8 +6,7 @@ pub enum State {
     Open,
     // Bids are no longer taken; the limit is awaited.
     Closed,
-    // The offer was awarded; the numbers of the limit and of the cut-off.
-    Awarded { limit: i32, cut: i32 },
-    // The act is void; the number of the limit.
-    Void { limit: i32 },
+    // The award was made: the numbers of the limit and of the cut-off, which is absent in a void act. (A book that held a quote by value
+    // could not tell whoever lent the rows what they hold: a quote of any kind might hold a reference.)
+    Decided { limit: i32, cut: Option<i32> },
 }

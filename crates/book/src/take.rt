@@ -1,7 +1,7 @@
 // The calls on a book.
 ghost use Rattle.std.specs.Prelude.{◌≡◌, false, length};
-ghost use Rattle.book.specs.Steps.{step, writes_tables};
-ghost use Rattle.book.specs.Views.{view};
+ghost use Rattle.book.specs.Steps.{writes_tables};
+ghost use Rattle.book.specs.Books.{Becomes, taken};
 
 use crate::book::Book;
 use crate::event::Event;
@@ -18,10 +18,9 @@ impl<'a, S: Sale> Book<'a, S> {
         demands: &mut [u32],
         shares: &mut [u32],
     ) -> Result<u32, BookFault>
-        ensures result { result ≡ (step S.Quote.Quote.number S.Quote.Quote.read S.Quote.Quote.no_worse S.Rule.SharingRule.meaning (length demands.old) (length shares.old) (view self.old) event).1 }
-        ensures after { view self.new ≡ (step S.Quote.Quote.number S.Quote.Quote.read S.Quote.Quote.no_worse S.Rule.SharingRule.meaning (length demands.old) (length shares.old) (view self.old) event).0 }
+        ensures result { result ≡ (taken self.old (length demands.old) (length shares.old) event).1 }
+        ensures book { Becomes self.old self.new (taken self.old (length demands.old) (length shares.old) event).0 }
         ensures tables { writes_tables event result ≡ false → (demands.new ≡ demands.old) × (shares.new ≡ shares.old) }
-        ensures same { self.new.rows.ghost_name ≡ self.old.rows.ghost_name }
     {
         match (self.state, event) {
             (

@@ -7,8 +7,9 @@ ghost use Rattle.book.specs.Table.{bid_of};
 ghost use Rattle.book.specs.Sheets.{in_use};
 ghost use Rattle.book.specs.Steps.{with_withdrawal};
 ghost use Rattle.book.specs.Places.{place_of};
-ghost use Rattle.book.specs.Judging.{against, Judgement, bid_grounds};
+ghost use Rattle.book.specs.Judging.{Judgement, bid_grounds};
 ghost use Rattle.book.specs.Views.{view};
+ghost use Rattle.book.specs.Books.{Becomes, objection};
 
 use crate::book::Book;
 use crate::fault::BookFault;
@@ -45,7 +46,7 @@ impl<'a, S: Sale> Book<'a, S> {
         house: u32,
         second: u32,
     ) -> Result<usize, BookFault>
-        ensures { Judgement (against S.Quote.Quote.read 0 0 (view self.now) (Withdrawal number house second)) (λ at. place_of number (in_use (view self.now)) ≡ Present at) result }
+        ensures { Judgement (objection self.now (Withdrawal number house second)) (λ at. place_of number (in_use (view self.now)) ≡ Present at) result }
     {
         if !is_house(house) {
             return Err(BookFault::HouseOutOfRange);
@@ -60,8 +61,7 @@ impl<'a, S: Sale> Book<'a, S> {
     // Marks the bid of a row as withdrawn.
     pub(crate) fn withdraw_at(&mut self, at: usize, number: u32, second: u32)
         requires { place_of number (in_use (view self.old)) ≡ Present at }
-        ensures after { view self.new ≡ with_withdrawal (view self.old) number second }
-        ensures same { self.new.rows.ghost_name ≡ self.old.rows.ghost_name }
+        ensures { Becomes self.old self.new (with_withdrawal (view self.old) number second) }
     {
         self.rows[at].standing = false;
         self.last = second;

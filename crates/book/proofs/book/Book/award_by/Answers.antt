@@ -22,13 +22,15 @@ returns g c =
     let done = limit_taken q.number q.read q.no_worse share (length c.args.demands.now) (length c.args.shares.now) (view b) c.args.quote limit read told.answer.0 in
     let lots = ap (take b.used) told.lots
     ∙ lots_in_front q.no_worse share (terms_of b.notice.notice) (terms_of b.notice.notice) refl limit b.rows.now b.used b.fit c.args.demands.now in
-    let state = c.state_by-self.ensures ∙ ap (state_by q.number q.read q.no_worse share limit) told.answer.1 in
+    let state = c.state_by-self.ensures ∙ ap (state_by q.number limit) told.answer.1 in
     record {
       result = sym (ap (λ (p : Sheet g.row.S-Quote.Denot × Result ℕ BookFault). p.1) done);
-      after = ap (λ (s : Sheet g.row.S-Quote.Denot). in_state s c.state_by-self.result) c.allot.ensures.after
-          ∙ ap (λ (xs : List ℕ). in_state (on_rows (view b) (given_to b.rows.now xs)) c.state_by-self.result) lots
-          ∙ ap (in_state (on_rows (view b) (given_to b.rows.now (lots_by_row q.no_worse share (terms_of b.notice.notice) limit (take b.used b.rows.now))))) state
-          ∙ sym (ap (λ (p : Sheet g.row.S-Quote.Denot × Result ℕ BookFault). p.0) done);
+      book = record {
+        after = ap (λ (s : Sheet g.row.S-Quote.Denot). in_state s c.state_by-self.result) c.allot.ensures.after
+            ∙ ap (λ (xs : List ℕ). in_state (on_rows (view b) (given_to b.rows.now xs)) c.state_by-self.result) lots
+            ∙ ap (in_state (on_rows (view b) (given_to b.rows.now (lots_by_row q.no_worse share (terms_of b.notice.notice) limit (take b.used b.rows.now))))) state
+            ∙ sym (ap (λ (p : Sheet g.row.S-Quote.Denot × Result ℕ BookFault). p.0) done);
+        same = c.allot.ensures.same;
+      };
       tables = λ e. absurd (both_ways false refl e);
-      same = c.allot.ensures.same;
     }

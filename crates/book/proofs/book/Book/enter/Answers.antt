@@ -22,13 +22,15 @@ returns g c =
     ∙ next_written b.rows.now b.used c.rows_used-at.result (row (b.used + 1)) c.rows_used-at.ensures c.requires.room in
     record {
       result = c.next_number-number.ensures;
-      after = ap (λ (rs : List (Row g.row.S-Quote.Denot)). record {
-        notice = b.notice.notice;
-        state = b.state;
-        used = b.used + 1;
-        arrivals = b.arrivals + 1;
-        last = c.args.second;
-        rows = rs;
-      }) rows;
-      same = refl;
+      book = record {
+        after = ap (λ (rs : List (Row g.row.S-Quote.Denot)). record {
+          notice = b.notice.notice;
+          state = b.state;
+          used = b.used + 1;
+          arrivals = b.arrivals + 1;
+          last = c.args.second;
+          rows = rs;
+        }) rows;
+        same = refl;
+      };
     }
