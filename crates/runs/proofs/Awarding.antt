@@ -47,15 +47,13 @@ module _ {Q : Type 0} (number : Q → ℤ) (read : ℤ → Option Q) (no_worse :
         is.1 ∙ ap Some (kind.same_quote is.0 q (kind.gives_back (number q) is.0 is.1))
 
     -- the state after an award tells limit and cut-off
-    state_phase : (limit : Q) (o : Option Q) → phase_of (state_by number read no_worse share limit o) ≡ decided
-    state_phase limit None = refl
-    state_phase limit (Some cut) = refl
+    state_phase : (limit : Q) (o : Option Q) → phase_of (state_by number limit o) ≡ decided
+    state_phase limit o = refl
 
-    state_limit : (limit : Q) (o : Option Q) → limit_of read (state_by number read no_worse share limit o) ≡ Some limit
-    state_limit limit None = read_back limit
-    state_limit limit (Some cut) = read_back limit
+    state_limit : (limit : Q) (o : Option Q) → limit_of read (state_by number limit o) ≡ Some limit
+    state_limit limit o = read_back limit
 
-    state_cut : (limit : Q) (o : Option Q) → cut_of read (state_by number read no_worse share limit o) ≡ o
+    state_cut : (limit : Q) (o : Option Q) → cut_of read (state_by number limit o) ≡ o
     state_cut limit None = refl
     state_cut limit (Some cut) = read_back cut
 

@@ -1,5 +1,5 @@
 -- Each call takes a sheet on, and what the accepted calls come to; its answer is the one by the rules.
-use Rattle.std.proofs.Common.{◌≡◌, ℕ, Bool, List, length, ℤ, Some, None, Option, refl, ap}
+use Rattle.std.proofs.Common.{◌≡◌, ℕ, Bool, List, length, ℤ, Some, None, Ok, Option, Result, refl, ap}
 use Rattle.terms.specs.Quotes.{Lawful}
 use Rattle.terms.specs.Grounds.{first}
 use Rattle.book.specs.declared.event.Event.{Event}
@@ -10,9 +10,10 @@ use Rattle.book.specs.Sheets.{Sheet, past_of}
 use Rattle.book.specs.Steps.{effect, judged}
 use Rattle.runs.specs.declared.call.Call.{Call}
 use Rattle.runs.specs.declared.call.Call.TheVariants as call
+use Rattle.runs.specs.declared.call.Answer.{Answer}
 use Rattle.runs.specs.declared.call.Answer.TheVariants as answers
-use Rattle.runs.specs.Calls.{event_answer, lots_answer, outcome_answer, accepted_next, answer_to, past_with}
-use Rattle.runs.specs.Runs.{put_answer, sheet_with, sheet_answer}
+use Rattle.runs.specs.Calls.{event_answer, answer_as, accepted_next, answer_to, past_with}
+use Rattle.runs.specs.Runs.{sheet_with, sheet_answer}
 use Rattle.runs.proofs.Kept.{Kept, Follows, TakesOn}
 use Rattle.runs.proofs.Taking.{entry_follows, change_follows, withdrawal_follows, close_follows}
 use Rattle.runs.proofs.Awarding.{limit_follows}
@@ -47,7 +48,7 @@ module _ {Q : Type 0} (number : Q → ℤ) (read : ℤ → Option Q) (no_worse :
   call_follows (call.Outcome n) = unmoved
 
   -- its answer is the one by the rules
-  put_is : (o : Option BookFault) (after : Sheet Q) (n : ℕ) → put_answer {Q = Q} (judged o s after n).1 ≡ event_answer n o
+  put_is : (o : Option BookFault) (after : Sheet Q) (n : ℕ) → ◌≡◌ {A = Result (Answer Q) BookFault} (answer_as answers.Accepted (judged o s after n).1) (event_answer n o)
   put_is None after n = refl
   put_is (Some f) after n = refl
 
@@ -57,7 +58,7 @@ module _ {Q : Type 0} (number : Q → ℤ) (read : ℤ → Option Q) (no_worse :
       put_is (first (grounds read s.notice (length s.rows) (past_of read s) one other e)) (effect number read no_worse share s e)
       (answer read s.notice (length s.rows) (past_of read s) e)
   answer_follows call.Count = refl
-  answer_follows call.Placed = ap answers.Placed k.tells.placed
-  answer_follows call.CutOff = ap answers.CutOff k.tells.cut
-  answer_follows (call.Allotment n) = ap lots_answer (k.tells.allotment n)
-  answer_follows (call.Outcome n) = ap outcome_answer (k.tells.outcome n)
+  answer_follows call.Placed = ap (λ x. Ok (answers.Placed x)) k.tells.placed
+  answer_follows call.CutOff = ap (λ x. Ok (answers.CutOff x)) k.tells.cut
+  answer_follows (call.Allotment n) = ap (answer_as answers.Allotment) (k.tells.allotment n)
+  answer_follows (call.Outcome n) = ap (answer_as answers.Outcome) (k.tells.outcome n)

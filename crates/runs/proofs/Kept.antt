@@ -9,7 +9,7 @@ use Rattle.award.specs.declared.row.Row.{Row}
 use Rattle.award.proofs.Sums.{sum_zero}
 use Rattle.book.specs.declared.event.Event.{Event}
 use Rattle.book.specs.declared.state.State.{State}
-use Rattle.book.specs.declared.state.State.TheVariants.{Open, Closed, Awarded, Void}
+use Rattle.book.specs.declared.state.State.TheVariants.{Open, Closed, Decided}
 use Rattle.book.specs.Table.{is_decided, Past, was_given, bid_of, grounds, next}
 use Rattle.book.specs.Questions.{cut_by, placed_by, cut_told, placed_told, lots_told, allotment_told, outcome_of, outcome_told}
 use Rattle.book.specs.Sheets.{Sheet, in_use, phase_of, limit_of, cut_of, past_of, opened}
@@ -42,8 +42,7 @@ in_use_long s fit = length-take-le s.used s.rows fit
 pub no_limit : {Q : Type 0} (read : ℤ → Option Q) (st : State) → is_decided (phase_of st) ≡ false → (limit_of read st ≡ None) × (cut_of read st ≡ None)
 no_limit read Open e = (refl, refl)
 no_limit read Closed e = (refl, refl)
-no_limit read (Awarded limit cut) e = absurd (both_ways true e refl)
-no_limit read (Void limit) e = absurd (both_ways true e refl)
+no_limit read (Decided limit cut) e = absurd (both_ways true e refl)
 
 module _ {Q : Type 0} (number : Q → ℤ) (read : ℤ → Option Q) (no_worse : Q → Q → Bool) (share : List ℕ → ℕ → List ℕ) where
   -- what a sheet tells by its rows is what the questions are answered by the rules

@@ -1,5 +1,5 @@
 -- A whole run: the answers of the book are those of the rules, and the law holds at each moment.
-use Rattle.std.proofs.Common.{◌≡◌, ℕ, ◌≤◌, min, Bool, true, not, ◌||◌, ltb, List, [], ◌∷◌, ◌++◌, length, get_or, take, ℤ, is_some, Option, sym, refl, ap, ◌∙◌, subst, arith}
+use Rattle.std.proofs.Common.{◌≡◌, ℕ, ◌≤◌, min, Bool, true, not, ◌||◌, ltb, List, [], ◌∷◌, ◌++◌, length, get_or, map, take, ℤ, is_some, Some, Option, Result, sym, refl, ap, ◌∙◌, subst, arith}
 use Rattle.std.proofs.lemmas.Bool.{and_from}
 use Rattle.std.proofs.lemmas.Bool.Decides.{nat_tests}
 use Rattle.terms.specs.declared.notice.Notice.{Notice}
@@ -12,6 +12,7 @@ use Rattle.award.specs.declared.row.Row.{Row}
 use Rattle.award.specs.Rows.{standing}
 use Rattle.book.specs.declared.event.Event.{Event}
 use Rattle.book.specs.declared.event.Event.TheVariants.{Entry, Change, Withdrawal, Close, Limit}
+use Rattle.book.specs.declared.fault.BookFault.{BookFault}
 use Rattle.book.specs.declared.fault.BookFault.TheVariants.{NotInThisState, QuoteOutOfRange, ShortTable}
 use Rattle.book.specs.Table.{Past, opening_past, awaits_limit}
 use Rattle.book.specs.Sheets.{Sheet, phase_of, past_of, opened}
@@ -40,12 +41,12 @@ checked_fits c =
 
 -- the answer to a call, by the calls before it
 answered_at : {Q : Type 0} (read : ℤ → Option Q) (no_worse : Q → Q → Bool) (share : List ℕ → ℕ → List ℕ) (notice : Notice) (table : ℕ)
-    (before : List Call) (c : Call) (after : List Call) (none : Answer Q) (p : Past Q)
-    → get_or (answered read no_worse share notice table p (before ++ c ∷ after)) (length before) none
-    ≡ answer_to read no_worse share notice table (past_after read no_worse share notice table p before) c
-answered_at read no_worse share notice table [] c after none p = refl
-answered_at read no_worse share notice table (b ∷ before) c after none p =
-    answered_at read no_worse share notice table before c after none (past_with read no_worse share notice table p b)
+    (before : List Call) (c : Call) (after : List Call) (unmade : Option (Result (Answer Q) BookFault)) (p : Past Q)
+    → get_or (map Some (answered read no_worse share notice table p (before ++ c ∷ after))) (length before) unmade
+    ≡ Some (answer_to read no_worse share notice table (past_after read no_worse share notice table p before) c)
+answered_at read no_worse share notice table [] c after unmade p = refl
+answered_at read no_worse share notice table (b ∷ before) c after unmade p =
+    answered_at read no_worse share notice table before c after unmade (past_with read no_worse share notice table p b)
 
 module _ {Q : Type 0} (number : Q → ℤ) (read : ℤ → Option Q) (no_worse : Q → Q → Bool) (share : List ℕ → ℕ → List ℕ) where
   -- no more than 4,096 bids are entered, so that a longer work table is judged as one of 4,096 places
@@ -86,21 +87,21 @@ module _ {Q : Type 0} (number : Q → ℤ) (read : ℤ → Option Q) (no_worse :
     -- the answers are those of the rules
     pub exchanged_answers : (xs : List (Exchange Q)) (s : Sheet Q) → Kept number read no_worse share s
         → answers_of (exchanged number read no_worse share s xs)
-        ≡ answered read no_worse share s.notice (length s.rows) (past_of read s) (calls_of xs)
+        ≡ map Some (answered read no_worse share s.notice (length s.rows) (past_of read s) (calls_of xs))
     exchanged_answers [] s k = refl
     exchanged_answers (x ∷ xs) s k =
         let f = call_follows number read no_worse share kind s k x.call in
         let after = sheet_with number read no_worse share s x.call in
         let calls = calls_of xs in
         ap
-        (λ a. a ∷ answers_of (exchanged number read no_worse share after xs))
+        (λ a. Some a ∷ answers_of (exchanged number read no_worse share after xs))
         (answer_follows number read no_worse share kind s k x.call)
         ∙ ap
-        (λ rest. answer_to read no_worse share s.notice (length s.rows) (past_of read s) x.call ∷ rest)
+        (λ rest. Some (answer_to read no_worse share s.notice (length s.rows) (past_of read s) x.call) ∷ rest)
         (exchanged_answers xs after f.kept
-        ∙ ap (λ n. answered read no_worse share n (length after.rows) (past_of read after) calls) f.notice
-        ∙ ap (λ t. answered read no_worse share s.notice t (past_of read after) calls) f.long
-        ∙ ap (λ p. answered read no_worse share s.notice (length s.rows) p calls) f.same)
+        ∙ ap (λ n. map Some (answered read no_worse share n (length after.rows) (past_of read after) calls)) f.notice
+        ∙ ap (λ t. map Some (answered read no_worse share s.notice t (past_of read after) calls)) f.long
+        ∙ ap (λ p. map Some (answered read no_worse share s.notice (length s.rows) p calls)) f.same)
 
     -- the sheet after a run comes to what the accepted calls come to
     pub run_follows : (calls : List Call) (s : Sheet Q) → Kept number read no_worse share s
@@ -137,7 +138,7 @@ module _ {Q : Type 0} (number : Q → ℤ) (read : ℤ → Option Q) (no_worse :
             same_calls = exchanged_calls xs (opened notice rows);
             answers = answers;
             each_answer = λ before c after none is.
-                ap (λ ys. get_or ys (length before) none) (answers ∙ ap (answered read no_worse share notice (length rows) opening_past) is)
+                ap (λ ys. get_or ys (length before) none) (answers ∙ ap (λ calls. map Some (answered read no_worse share notice (length rows) opening_past calls)) is)
                 ∙ answered_at read no_worse share notice (length rows) before c after none opening_past;
             law = λ before after is. moment read no_worse share notice (length rows) kind fair fits before;
             rows_are = refl;

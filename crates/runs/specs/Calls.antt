@@ -4,7 +4,6 @@ use Rattle.terms.specs.declared.notice.Notice.{Notice}
 use Rattle.terms.specs.Grounds.{first}
 use Rattle.book.specs.declared.event.Event.{Event}
 use Rattle.book.specs.declared.fault.BookFault.{BookFault}
-use Rattle.book.specs.declared.outcome.Outcome as outcome
 use Rattle.book.specs.Table.{Past, grounds, answer, next}
 use Rattle.book.specs.Questions.{count_told, placed_told, cut_told, allotment_told, outcome_told}
 use Rattle.runs.specs.declared.call.Call.{Call}
@@ -12,18 +11,15 @@ use Rattle.runs.specs.declared.call.Call.TheVariants as call
 use Rattle.runs.specs.declared.call.Answer.{Answer}
 use Rattle.runs.specs.declared.call.Answer.TheVariants as answers
 
--- the answers to an event and to the questions for a number
-abbrev pub event_answer : {Q : Type 0} → ℕ → Option BookFault → Answer Q
-event_answer n None = answers.Accepted n
-event_answer n (Some f) = answers.Refused f
+-- the answer to an event
+abbrev pub event_answer : {Q : Type 0} → ℕ → Option BookFault → Result (Answer Q) BookFault
+event_answer n None = Ok (answers.Accepted n)
+event_answer n (Some f) = Err f
 
-abbrev pub lots_answer : {Q : Type 0} → Result ℕ BookFault → Answer Q
-lots_answer (Ok x) = answers.Allotment x
-lots_answer (Err f) = answers.Refused f
-
-abbrev pub outcome_answer : {Q : Type 0} → Result outcome.Outcome BookFault → Answer Q
-outcome_answer (Ok o) = answers.Outcome o
-outcome_answer (Err f) = answers.Refused f
+-- what a book tells, as an answer of a kind; a refusal stays
+abbrev pub answer_as : {A Q : Type 0} → (A → Answer Q) → Result A BookFault → Result (Answer Q) BookFault
+answer_as kind (Ok x) = Ok (kind x)
+answer_as kind (Err f) = Err f
 
 -- a refused event leaves what the accepted ones come to
 abbrev pub accepted_next : {Q : Type 0} → Option BookFault → Past Q → Past Q → Past Q
@@ -36,13 +32,13 @@ module _ {Q : Type 0} (read : ℤ → Option Q) (no_worse : Q → Q → Bool) (s
   refusal p one other e = first (grounds read notice table p one other e)
 
   -- what a call is answered
-  abbrev pub answer_to : Past Q → Call → Answer Q
+  abbrev pub answer_to : Past Q → Call → Result (Answer Q) BookFault
   answer_to p (call.Put e one other) = event_answer (answer read notice table p e) (refusal p one other e)
-  answer_to p call.Count = answers.Count (count_told p)
-  answer_to p call.Placed = answers.Placed (placed_told no_worse share notice p)
-  answer_to p call.CutOff = answers.CutOff (cut_told no_worse share notice p)
-  answer_to p (call.Allotment n) = lots_answer (allotment_told no_worse share notice p n)
-  answer_to p (call.Outcome n) = outcome_answer (outcome_told no_worse share notice p n)
+  answer_to p call.Count = Ok (answers.Count (count_told p))
+  answer_to p call.Placed = Ok (answers.Placed (placed_told no_worse share notice p))
+  answer_to p call.CutOff = Ok (answers.CutOff (cut_told no_worse share notice p))
+  answer_to p (call.Allotment n) = answer_as answers.Allotment (allotment_told no_worse share notice p n)
+  answer_to p (call.Outcome n) = answer_as answers.Outcome (outcome_told no_worse share notice p n)
 
   -- what the accepted calls come to after one more call
   abbrev pub past_with : Past Q → Call → Past Q
@@ -59,6 +55,6 @@ module _ {Q : Type 0} (read : ℤ → Option Q) (no_worse : Q → Q → Bool) (s
   past_after p (c ∷ calls) = past_after (past_with p c) calls
 
   -- what each of a list of calls is answered
-  abbrev pub answered : Past Q → List Call → List (Answer Q)
+  abbrev pub answered : Past Q → List Call → List (Result (Answer Q) BookFault)
   answered p [] = []
   answered p (c ∷ calls) = answer_to p c ∷ answered (past_with p c) calls

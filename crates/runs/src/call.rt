@@ -27,14 +27,11 @@ pub enum Call {
     },
 }
 
+// The answer to a call that is not refused.
 #[derive(Clone, Copy)]
 pub enum Answer<Q> {
-    // The call was not made yet.
-    Awaited,
     // An event was accepted, with this answer: an entry's number, else 0.
     Accepted(u32),
-    // The call was refused.
-    Refused(BookFault),
     // The answers to the questions.
     Count(usize),
     Placed(u64),
@@ -43,9 +40,9 @@ pub enum Answer<Q> {
     Outcome(Outcome),
 }
 
-// A call, with the place for its answer beside it.
+// A call, with the place for its answer beside it: the answer, or why the call was refused; nothing before it is made.
 #[derive(Clone, Copy)]
 pub struct Exchange<Q> {
     pub call: Call,
-    pub answer: Answer<Q>,
+    pub answer: Option<Result<Answer<Q>, BookFault>>,
 }

@@ -1,6 +1,7 @@
 // A whole run of calls, each with its answer.
 use award::row::Row;
 use book::event::Event;
+use book::fault::BookFault;
 use runs::call::{Answer, Call, Exchange};
 use runs::run::run;
 use std::test::Fail;
@@ -19,16 +20,16 @@ fn cut_shown(cut: Option<Rate>) -> (u8, u64) {
 
 // An answer as a letter for its case and a number: A for an accepted event, R for a refusal, B for the count of bids, P for the placed lots,
 // L for the lots of an allotment, O for an outcome.
-fn shown(answer: Answer<Rate>) -> (u8, u64) {
+fn shown(answer: Option<Result<Answer<Rate>, BookFault>>) -> (u8, u64) {
     match answer {
-        Answer::Awaited => (b'?', 0),
-        Answer::Accepted(number) => (b'A', number as u64),
-        Answer::Refused(fault) => (b'R', fault.number() as u64),
-        Answer::Count(bids) => (b'B', bids as u64),
-        Answer::Placed(lots) => (b'P', lots),
-        Answer::CutOff(cut) => cut_shown(cut),
-        Answer::Allotment(lots) => (b'L', lots as u64),
-        Answer::Outcome(outcome) => (b'O', outcome.number() as u64),
+        None => (b'?', 0),
+        Some(Err(fault)) => (b'R', fault.number() as u64),
+        Some(Ok(Answer::Accepted(number))) => (b'A', number as u64),
+        Some(Ok(Answer::Count(bids))) => (b'B', bids as u64),
+        Some(Ok(Answer::Placed(lots))) => (b'P', lots),
+        Some(Ok(Answer::CutOff(cut))) => cut_shown(cut),
+        Some(Ok(Answer::Allotment(lots))) => (b'L', lots as u64),
+        Some(Ok(Answer::Outcome(outcome))) => (b'O', outcome.number() as u64),
     }
 }
 
@@ -143,7 +144,7 @@ fn each_call_of_a_run_is_answered_by_the_calls_before_it(rt: HostRuntime) -> Res
     ];
     let mut calls = [Exchange {
         call: Call::Count,
-        answer: Answer::Awaited,
+        answer: None,
     }; 38];
     for (exchange, (call, _)) in calls.iter_mut().zip(made.iter()) {
         exchange.call = *call;

@@ -10,8 +10,8 @@ pub loop-exchange-preserved : goal.loop-exchange-preserved
 loop-exchange-preserved g c = (
   midway_more g.S.Quote.Quote.number g.S.Quote.Quote.read g.S.Quote.Quote.no_worse g.S.Rule.SharingRule.meaning
       (view c.open-book.result) c.args.calls.now (view c.loop-exchange.book) (view c.fill.new.book) c.loop-exchange.exchange-index c.loop-exchange.calls
-      c.exchange-item.result c.fill.new.exchange (search rules) c.fill.ensures.answer c.fill.ensures.after c.loop-exchange.invariant.0,
-  c.fill.ensures.same ∙ c.loop-exchange.invariant.1,
+      c.exchange-item.result c.fill.new.exchange (search rules) c.fill.ensures.answer c.fill.ensures.book.after c.loop-exchange.invariant.0,
+  c.fill.ensures.book.same ∙ c.loop-exchange.invariant.1,
 )
 
 pub returns : goal.returns
@@ -31,4 +31,4 @@ returns g c =
     let kept : view c.loop-exchange.book ≡ sheet_after number read no_worse share (opened notice rows) (calls_of calls) =
     end.1 ∙ ap (λ s. sheet_after number read no_worse share s (calls_of calls)) start in
     let rows_end = ap (λ s. s.rows) kept in
-    run_law number read no_worse share g.met.S.Quote.Quote.lawful g.met.S.Rule.SharingRule.fair notice (checked_fits c.args.notice) rows calls _ _ (search rules) made
+    run_law number read no_worse share g.met.S.Quote.Quote.lawful g.met.S.Rule.SharingRule.fair notice (checked_fits c.args.notice) rows calls _ _ (search rules ∙ rows_end) made
