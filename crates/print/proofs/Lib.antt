@@ -1,5 +1,4 @@
 pub mod Digits
 pub mod Lengths
 pub mod Places
-pub mod Rooms
 pub mod Texts

@@ -1,10 +1,10 @@
 // The pieces that a line is made of.
-ghost use Rattle.std.specs.Prelude.{◌≡◌, ◌+◌, ◌≤◌, length};
+ghost use Rattle.std.specs.Prelude.{◌≡◌, length};
 ghost use Rattle.print.specs.Pieces.{spelled};
-ghost use Rattle.print.specs.Places.{laid};
+ghost use Rattle.print.specs.Places.{Fits, Lays};
 
-use crate::lay::{number_width, put_bytes, put_number, put_signed, signed_width};
-use crate::printed::Printed;
+use crate::cursor::Cursor;
+use crate::lay::{number_width, signed_width};
 
 #[derive(Clone, Copy)]
 pub(crate) enum Piece<'a> {
@@ -28,35 +28,15 @@ impl<'a> Piece<'a> {
         }
     }
 
-    // Lays the piece at `at`; tells the place after it.
-    pub(crate) fn lay(&self, space: &mut [u8], at: usize) -> usize
-        requires { at + length (spelled self.now) ≤ length space.old }
-        ensures end { result ≡ at + length (spelled self.now) }
-        ensures after { space.new ≡ laid at (spelled self.now) space.old }
+    // Lays the piece at the cursor.
+    pub(crate) fn lay(&self, cursor: &mut Cursor<'_>)
+        requires { Fits (spelled self.now) cursor.old }
+        ensures { Lays (spelled self.now) cursor.old cursor.new }
     {
         match self {
-            Piece::Number(n) => put_number(*n, space, at),
-            Piece::Signed(z) => put_signed(*z, space, at),
-            Piece::Text(text) => put_bytes(text, space, at),
+            Piece::Number(n) => cursor.number(*n),
+            Piece::Signed(z) => cursor.signed(*z),
+            Piece::Text(text) => cursor.bytes(text),
         }
-    }
-}
-
-impl<'a> Printed for Piece<'a> {
-    ghost text = { spelled };
-
-    ghost most = { λ p. length (spelled p) };
-
-    fn room_after(&self, room: usize) -> Option<usize> {
-        let width = self.width();
-        if width <= room {
-            Some(room - width)
-        } else {
-            None
-        }
-    }
-
-    fn put(&self, space: &mut [u8], at: usize) -> usize {
-        self.lay(space, at)
     }
 }

@@ -5,7 +5,7 @@ ghost use Rattle.print.specs.Lengths.{AtMost, Enough, most_parts_bytes};
 ghost use Rattle.print.specs.Lines.{refusal_line, act_text, no_act_line, print_text};
 ghost use Rattle.wire.specs.Writes.{Writes};
 
-use crate::ending::Ending;
+use crate::act::Act;
 use crate::head::Head;
 use crate::lines::no_act_line;
 use crate::printed::{Each, Then, write};
@@ -37,7 +37,7 @@ pub fn write_no_act(space: &mut [u8]) -> Result<usize, WriteFault>
 // Writes the refusals and the ending, with a bound for each of them.
 fn write_parts(
     refusals: &[Refusal],
-    ending: Ending<'_>,
+    ending: Option<Act<'_>>,
     space: &mut [u8],
 ) -> Result<usize, WriteFault>
     ensures written { Writes (print_text refusals.now ending.entry) space.old space.new result }
@@ -50,7 +50,7 @@ fn write_parts(
 // `most_print_bytes` states is never too short.
 pub fn write_print(
     refusals: &[Refusal],
-    ending: Ending<'_>,
+    ending: Option<Act<'_>>,
     space: &mut [u8],
 ) -> Result<usize, WriteFault>
     ensures written { Writes (print_text refusals.now ending.entry) space.old space.new result }

@@ -1,0 +1,56 @@
+// What takes the pieces of a print: a room, in which they are counted, or a cursor, at which they are laid.
+ghost use Rattle.std.specs.Prelude.{ℕ, ◌-◌, List, length};
+ghost use Rattle.print.specs.Laying.{cursor_laws};
+ghost use Rattle.print.specs.Pieces.{spelled};
+ghost use Rattle.print.specs.Places.{Lays};
+ghost use Rattle.print.specs.Sinks.{Takes, SinkLaws};
+
+use crate::cursor::Cursor;
+use crate::piece::Piece;
+
+pub(crate) trait Sink {
+    // How many bytes it still takes.
+    ghost room: { Self → ℕ };
+
+    // What it is before and after a text that it took.
+    ghost took: { List ℕ → Self → Self → Type 0 };
+
+    // Takes a piece; tells nothing where there is no room for it.
+    fn take(&mut self, piece: &Piece<'_>) -> Option<()>
+        ensures { Takes room took (spelled piece.now) self.old self.new result };
+
+    ghost laws: { SinkLaws took };
+}
+
+// How many bytes there is room for.
+#[derive(Clone, Copy)]
+pub(crate) struct Room(pub usize);
+
+impl Sink for Room {
+    ghost room = { λ r. r.0 };
+
+    ghost took = { λ text before after. Unit {0} };
+
+    ghost laws = { record { none = λ s. tt; both = λ t u a b c l m. tt } };
+
+    fn take(&mut self, piece: &Piece<'_>) -> Option<()> {
+        self.0 = self.0.checked_sub(piece.width())?;
+        Some(())
+    }
+}
+
+impl<'a> Sink for Cursor<'a> {
+    ghost room = { λ c. length c.space.now - c.at };
+
+    ghost took = { Lays };
+
+    ghost laws = { cursor_laws };
+
+    fn take(&mut self, piece: &Piece<'_>) -> Option<()> {
+        if self.space.len() - self.at < piece.width() {
+            return None;
+        }
+        piece.lay(self);
+        Some(())
+    }
+}
