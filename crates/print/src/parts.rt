@@ -5,7 +5,7 @@ ghost use Rattle.print.specs.Lines.{refusal_line, head_line, row_line, ending_te
 use crate::act::Act;
 use crate::head::Head;
 use crate::lines::{cut_line, no_act_line, refusal_line, row_line, void_line};
-use crate::printed::{Each, Printed, Then, print_all};
+use crate::printed::{Each, Printed, Then};
 use crate::refusal::Refusal;
 use crate::row::ActRow;
 use crate::sink::Sink;
@@ -16,7 +16,7 @@ impl Printed for Refusal {
     ghost most = { most_refusal_bytes };
 
     fn print<S: Sink>(&self, sink: &mut S) -> Option<()> {
-        print_all(&refusal_line(self), sink)
+        Each(&refusal_line(self)).print(sink)
     }
 }
 
@@ -27,8 +27,8 @@ impl<'a> Printed for Head<'a> {
 
     fn print<S: Sink>(&self, sink: &mut S) -> Option<()> {
         match self.award {
-            None => print_all(&void_line(self), sink),
-            Some(award) => print_all(&cut_line(self, award), sink),
+            None => Each(&void_line(self)).print(sink),
+            Some(award) => Each(&cut_line(self, award)).print(sink),
         }
     }
 }
@@ -39,7 +39,7 @@ impl Printed for ActRow {
     ghost most = { most_row_bytes };
 
     fn print<S: Sink>(&self, sink: &mut S) -> Option<()> {
-        print_all(&row_line(self), sink)
+        Each(&row_line(self)).print(sink)
     }
 }
 

@@ -30,22 +30,11 @@ pub(crate) fn write<T: Printed>(item: &T, space: &mut [u8]) -> Result<usize, Wri
     ensures written { Writes (T.Printed.text item.now) space.old space.new result }
     ensures bound { AtMost (T.Printed.most item.now) (length space.old) (T.Printed.text item.now) }
 {
-    let mut room = Room(space.len());
-    item.print(&mut room).ok_or(WriteFault::SpaceTooShort)?;
+    item.print(&mut Room(space.len()))
+        .ok_or(WriteFault::SpaceTooShort)?;
     let mut cursor = Cursor { space, at: 0 };
     item.print(&mut cursor).ok_or(WriteFault::SpaceTooShort)?;
     Ok(cursor.at)
-}
-
-// Gives the texts of all items to a sink; tells nothing where there is no room for them.
-pub(crate) fn print_all<T: Printed, S: Sink>(items: &[T], sink: &mut S) -> Option<()>
-    ensures printed { Takes S.Sink.room S.Sink.took (texts T.Printed.text items.now) sink.old sink.new result }
-    ensures bound { AtMost (sum_by T.Printed.most items.now) (S.Sink.room sink.old) (texts T.Printed.text items.now) }
-{
-    for item in items {
-        item.print(sink)?;
-    }
-    Some(())
 }
 
 impl<'a> Printed for Piece<'a> {
@@ -68,7 +57,10 @@ impl<'a, T: Printed> Printed for Each<'a, T> {
     ghost most = { λ e. sum_by T.Printed.most e.0.now };
 
     fn print<S: Sink>(&self, sink: &mut S) -> Option<()> {
-        print_all(self.0, sink)
+        for item in self.0 {
+            item.print(sink)?;
+        }
+        Some(())
     }
 }
 

@@ -23,7 +23,7 @@ pub(crate) trait Sink {
 }
 
 // How many bytes there is room for.
-#[derive(Clone, Copy)]
+#[derive(Drop)]
 pub(crate) struct Room(pub usize);
 
 impl Sink for Room {

@@ -2,12 +2,12 @@
 use Rattle.std.proofs.Common.{◌+◌, ◌≤◌, length, take, sym, subst, arith}
 use Rattle.print.specs.Texts.{texts}
 use Rattle.print.proofs.Texts.{texts_item, length_item, length_front, sum_item, sum_front}
-use Rattle.print.proofs.printed.print_all.Goals as goal
+use Rattle.print.proofs.printed.EachPrinted.print.Goals as goal
 
 pub returns-in_err-print-clause-printed : goal.returns-in_err-print-clause-printed
 returns-in_err-print-clause-printed g c =
     let f = g.T.Printed.text in
-    let xs = c.args.items.now in
+    let xs = c.args.self.now.0.now in
     let i = c.loop-item.item-index in
     let x = c.item-item.result in
     let more = length_item f xs i x c.loop-item-test.true c.item-item.is in
@@ -17,7 +17,7 @@ pub loop-item-preserved : goal.loop-item-preserved
 loop-item-preserved g c =
     let f = g.T.Printed.text in
     let m = g.T.Printed.most in
-    let xs = c.args.items.now in
+    let xs = c.args.self.now.0.now in
     let i = c.loop-item.item-index in
     let x = c.item-item.result in
     let more = texts_item f xs i x c.loop-item-test.true c.item-item.is in
