@@ -1,6 +1,6 @@
 -- The texts of the items at the front of a list, and of one item more; the same of a sum over them.
 use Rattle.std.proofs.Common.{◌≡◌, ℕ, ◌+◌, ◌<◌, ◌≤◌, List, [], ◌∷◌, ◌++◌, length, get_or, take, drop, sum_by, sym, refl, ap, ◌∙◌, append_assoc, arith}
-use Rattle.std.proofs.lemmas.List.{append-nil, length-append, take-append-drop, take_more, take_all}
+use Rattle.std.proofs.lemmas.List.{append-nil, length-append, take-append-drop, take_more}
 use Rattle.std.proofs.lemmas.List.Sums.{sum_by_more, sum_by-take-le}
 use Rattle.print.specs.Texts.{texts}
 
@@ -26,16 +26,9 @@ module _ {X : Type 0} (f : X → List ℕ) where
         let both : texts f xs ≡ texts f (take i xs) ++ texts f (drop i xs) = ap (texts f) (sym (take-append-drop i xs)) ∙ texts_append (take i xs) (drop i xs) in
         omega (arith, ap length both, length-append (texts f (take i xs)) (texts f (drop i xs)))
 
-    -- the front is the whole
-    pub texts_all : length xs ≤ i → texts f (take i xs) ≡ texts f xs
-    texts_all h = ap (texts f) (take_all i xs h)
-
 module _ {X : Type 0} (m : X → ℕ) (xs : List X) (i : ℕ) where
   pub sum_item : (x : X) → i < length xs → x ≡ get_or xs i x → sum_by m (take (i + 1) xs) ≡ sum_by m (take i xs) + m x
   sum_item x h e = sum_by_more m xs i x h ∙ ap (λ y. sum_by m (take i xs) + m y) (sym e)
 
   pub sum_front : sum_by m (take i xs) ≤ sum_by m xs
   sum_front = sum_by-take-le m xs i
-
-  pub sum_all : length xs ≤ i → sum_by m (take i xs) ≡ sum_by m xs
-  sum_all h = ap (sum_by m) (take_all i xs h)

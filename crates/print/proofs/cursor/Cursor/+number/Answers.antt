@@ -1,5 +1,5 @@
 -- A number's digits: those of its tenth, and the last.
-use Rattle.std.proofs.Common.{◌+◌, ◌/◌, ◌%◌, [], ◌∷◌, decimal, sym, refl, subst, arith, rules}
+use Rattle.std.proofs.Common.{◌+◌, ◌%◌, sym, refl, subst, arith, rules}
 use Rattle.print.specs.Laying.{lays_both}
 use Rattle.print.specs.Places.{Fits, Lays}
 use Rattle.print.proofs.Digits.{one_digit, more_digits}

@@ -1,6 +1,5 @@
 -- Each item's text is taken behind those of the items before it.
-use Rattle.std.proofs.Common.{◌+◌, ◌≤◌, length, take, sym, subst, arith}
-use Rattle.print.specs.Texts.{texts}
+use Rattle.std.proofs.Common.{◌+◌, ◌≤◌, sym, subst, arith}
 use Rattle.print.proofs.Texts.{texts_item, length_item, length_front, sum_item, sum_front}
 use Rattle.print.proofs.printed.EachPrinted.print.Goals as goal
 
