@@ -11,4 +11,3 @@ first_fits t u a h = omega (arith, h, length-append t u)
 
 pub second_fits : (t u : List ℕ) (a b : Cursor) → Fits (t ++ u) a → Lays t a b → Fits u b
 second_fits t u a b h l = omega (arith, h, length-append t u, l.at, same_length t a b l)
-

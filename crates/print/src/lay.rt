@@ -1,4 +1,5 @@
 // Bytes and decimal numbers, laid at a cursor whose space holds them.
+// The digits are written by hand: `Display` tells its exact text only through a String, which needs a heap.
 ghost use Rattle.std.specs.Prelude.{◌≡◌, ◌+◌, ◌%◌, [], ◌∷◌, length, decimal};
 ghost use Rattle.std.specs.Fmt.{signed_decimal};
 ghost use Rattle.print.specs.Places.{Fits, Lays};

@@ -18,14 +18,15 @@ pub(crate) trait Printed: Sized {
     // The most bytes that they can be.
     ghost most: { Self → ℕ };
 
-    // Gives the text to a sink; tells nothing where there is no room for it. Giving ends where the room does, so that the
-    // bound is told where there is room for it.
+    // Gives the text to a sink; `None` where there is no room for it. Giving ends where the room does, so that the bound is
+    // told where there is room for it.
     fn print<S: Sink>(&self, sink: &mut S) -> Option<()>
         ensures printed { Takes S.room S.took (text self.now) sink.old sink.new result }
         ensures bound { AtMost (most self.now) (S.room sink.old) (text self.now) };
 }
 
-// Writes the text at the front of the space and tells its count; a space that is too short is left as it was.
+// Writes the text at the front of the space and tells its count. The bytes are counted first, so that a space that is too
+// short is left as it was; where they fit, laying them cannot fail.
 pub(crate) fn write<T: Printed>(item: &T, space: &mut [u8]) -> Result<usize, WriteFault>
     ensures written { Writes (T.Printed.text item.now) space.old space.new result }
     ensures bound { AtMost (T.Printed.most item.now) (length space.old) (T.Printed.text item.now) }

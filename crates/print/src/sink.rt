@@ -9,20 +9,20 @@ use crate::cursor::Cursor;
 use crate::piece::Piece;
 
 pub(crate) trait Sink {
-    // How many bytes it still takes.
+    // How many bytes it has room for.
     ghost room: { Self → ℕ };
 
-    // What it is before and after a text that it took.
+    // What it is after a text that it takes, by what it was before.
     ghost took: { List ℕ → Self → Self → Type 0 };
 
-    // Takes a piece; tells nothing where there is no room for it.
+    // Takes a piece; `None` where there is no room for it.
     fn take(&mut self, piece: &Piece<'_>) -> Option<()>
         ensures { Takes room took (spelled piece.now) self.old self.new result };
 
     ghost laws: { SinkLaws took };
 }
 
-// How many bytes there is room for.
+// The room that is left, in bytes.
 #[derive(Drop)]
 pub(crate) struct Room(pub usize);
 
