@@ -9,13 +9,14 @@ use crate::printed::{Each, Printed, Then};
 use crate::refusal::Refusal;
 use crate::row::ActRow;
 use crate::sink::Sink;
+use wire::fault::WriteFault;
 
 impl Printed for Refusal {
     ghost text = { refusal_line };
 
     ghost most = { most_refusal_bytes };
 
-    fn print<S: Sink>(&self, sink: &mut S) -> Option<()> {
+    fn print<S: Sink>(&self, sink: &mut S) -> Result<(), WriteFault> {
         Each(&refusal_line(self)).print(sink)
     }
 }
@@ -25,7 +26,7 @@ impl<'a> Printed for Head<'a> {
 
     ghost most = { most_head_bytes };
 
-    fn print<S: Sink>(&self, sink: &mut S) -> Option<()> {
+    fn print<S: Sink>(&self, sink: &mut S) -> Result<(), WriteFault> {
         match self.award {
             None => Each(&void_line(self)).print(sink),
             Some(award) => Each(&cut_line(self, award)).print(sink),
@@ -38,7 +39,7 @@ impl Printed for ActRow {
 
     ghost most = { most_row_bytes };
 
-    fn print<S: Sink>(&self, sink: &mut S) -> Option<()> {
+    fn print<S: Sink>(&self, sink: &mut S) -> Result<(), WriteFault> {
         Each(&row_line(self)).print(sink)
     }
 }
@@ -49,7 +50,7 @@ impl<'a> Printed for Option<Act<'a>> {
 
     ghost most = { most_ending_bytes };
 
-    fn print<S: Sink>(&self, sink: &mut S) -> Option<()> {
+    fn print<S: Sink>(&self, sink: &mut S) -> Result<(), WriteFault> {
         match *self {
             Some(Act { head, rows }) => Then(head, Each(rows)).print(sink),
             None => no_act_line().print(sink),

@@ -18,9 +18,9 @@ pub(crate) trait Printed: Sized {
     // The most bytes that they can be.
     ghost most: { Self → ℕ };
 
-    // Gives the text to a sink; `None` where there is no room for it. Giving ends where the room does, so that the bound is
-    // told where there is room for it.
-    fn print<S: Sink>(&self, sink: &mut S) -> Option<()>
+    // Gives the text to a sink, if there is room for it. Giving ends where the room does, so that the bound is told where
+    // there is room for it.
+    fn print<S: Sink>(&self, sink: &mut S) -> Result<(), WriteFault>
         ensures printed { Takes S.room S.took (text self.now) sink.old sink.new result }
         ensures bound { AtMost (most self.now) (S.room sink.old) (text self.now) };
 }
@@ -31,10 +31,9 @@ pub(crate) fn write<T: Printed>(item: &T, space: &mut [u8]) -> Result<usize, Wri
     ensures written { Writes (T.Printed.text item.now) space.old space.new result }
     ensures bound { AtMost (T.Printed.most item.now) (length space.old) (T.Printed.text item.now) }
 {
-    item.print(&mut Room(space.len()))
-        .ok_or(WriteFault::SpaceTooShort)?;
+    item.print(&mut Room(space.len()))?;
     let mut cursor = Cursor { space, at: 0 };
-    item.print(&mut cursor).ok_or(WriteFault::SpaceTooShort)?;
+    item.print(&mut cursor)?;
     Ok(cursor.at)
 }
 
@@ -43,7 +42,7 @@ impl<'a> Printed for Piece<'a> {
 
     ghost most = { λ p. length (spelled p) };
 
-    fn print<S: Sink>(&self, sink: &mut S) -> Option<()> {
+    fn print<S: Sink>(&self, sink: &mut S) -> Result<(), WriteFault> {
         sink.take(self)
     }
 }
@@ -57,11 +56,11 @@ impl<'a, T: Printed> Printed for Each<'a, T> {
 
     ghost most = { λ e. sum_by T.Printed.most e.0.now };
 
-    fn print<S: Sink>(&self, sink: &mut S) -> Option<()> {
+    fn print<S: Sink>(&self, sink: &mut S) -> Result<(), WriteFault> {
         for item in self.0 {
             item.print(sink)?;
         }
-        Some(())
+        Ok(())
     }
 }
 
@@ -74,7 +73,7 @@ impl<A: Printed, B: Printed> Printed for Then<A, B> {
 
     ghost most = { λ t. A.Printed.most t.0 + B.Printed.most t.1 };
 
-    fn print<S: Sink>(&self, sink: &mut S) -> Option<()> {
+    fn print<S: Sink>(&self, sink: &mut S) -> Result<(), WriteFault> {
         self.0.print(sink)?;
         self.1.print(sink)
     }

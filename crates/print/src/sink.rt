@@ -7,6 +7,7 @@ ghost use Rattle.print.specs.Sinks.{Takes, SinkLaws};
 
 use crate::cursor::Cursor;
 use crate::piece::Piece;
+use wire::fault::WriteFault;
 
 pub(crate) trait Sink {
     // How many bytes it has room for.
@@ -15,8 +16,8 @@ pub(crate) trait Sink {
     // What it is after a text that it takes, by what it was before.
     ghost took: { List ℕ → Self → Self → Type 0 };
 
-    // Takes a piece; `None` where there is no room for it.
-    fn take(&mut self, piece: &Piece<'_>) -> Option<()>
+    // Takes a piece, if there is room for it.
+    fn take(&mut self, piece: &Piece<'_>) -> Result<(), WriteFault>
         ensures { Takes room took (spelled piece.now) self.old self.new result };
 
     ghost laws: { SinkLaws took };
@@ -33,9 +34,12 @@ impl Sink for Room {
 
     ghost laws = { record { none = λ s. tt; both = λ t u a b c l m. tt } };
 
-    fn take(&mut self, piece: &Piece<'_>) -> Option<()> {
-        self.0 = self.0.checked_sub(piece.width())?;
-        Some(())
+    fn take(&mut self, piece: &Piece<'_>) -> Result<(), WriteFault> {
+        self.0 = self
+            .0
+            .checked_sub(piece.width())
+            .ok_or(WriteFault::SpaceTooShort)?;
+        Ok(())
     }
 }
 
@@ -46,11 +50,11 @@ impl<'a> Sink for Cursor<'a> {
 
     ghost laws = { cursor_laws };
 
-    fn take(&mut self, piece: &Piece<'_>) -> Option<()> {
+    fn take(&mut self, piece: &Piece<'_>) -> Result<(), WriteFault> {
         if self.space.len() - self.at < piece.width() {
-            return None;
+            return Err(WriteFault::SpaceTooShort);
         }
         piece.lay(self);
-        Some(())
+        Ok(())
     }
 }
