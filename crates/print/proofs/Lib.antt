@@ -1,3 +1,3 @@
 pub mod Digits
 pub mod Lengths
-pub mod Places
+pub mod Sinks

@@ -6,10 +6,6 @@ use Rattle.print.specs.declared.cursor.Cursor.{Cursor}
 abbrev pub laid : ℕ → List ℕ → List ℕ → List ℕ
 laid at text before = take at before ++ (text ++ drop (at + length text) before)
 
--- The space holds the text from the place on.
-abbrev pub Fits : List ℕ → Cursor → Type 0
-Fits text c = c.at + length text ≤ length c.space.now
-
 -- The text is laid at the place, which goes on to the end of it; the space is still the same.
 pub record Lays (text : List ℕ) (before after : Cursor) : Type 0 where
   pub fits : before.at + length text ≤ length before.space.now

@@ -4,8 +4,8 @@
 pub mod act;
 mod cursor;
 pub mod head;
-mod lay;
 mod lines;
+mod number;
 mod parts;
 mod piece;
 mod printed;

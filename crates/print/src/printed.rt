@@ -7,6 +7,7 @@ ghost use Rattle.print.specs.Texts.{texts};
 ghost use Rattle.wire.specs.Writes.{Writes};
 
 use crate::cursor::Cursor;
+use crate::number::{print_number, print_signed};
 use crate::piece::Piece;
 use crate::sink::{Room, Sink};
 use wire::fault::WriteFault;
@@ -43,7 +44,11 @@ impl<'a> Printed for Piece<'a> {
     ghost most = { λ p. length (spelled p) };
 
     fn print<S: Sink>(&self, sink: &mut S) -> Result<(), WriteFault> {
-        sink.take(self)
+        match self {
+            Piece::Number(n) => print_number(*n, sink),
+            Piece::Signed(z) => print_signed(*z, sink),
+            Piece::Text(text) => sink.take(text),
+        }
     }
 }
 

@@ -1,12 +1,10 @@
-// What takes the pieces of a print: a room, in which they are counted, or a cursor, at which they are laid.
+// What takes the bytes of a print: a room, in which they are counted, or a cursor, at which they are laid.
 ghost use Rattle.std.specs.Prelude.{ℕ, ◌-◌, List, length};
 ghost use Rattle.print.specs.Laying.{cursor_laws};
-ghost use Rattle.print.specs.Pieces.{spelled};
 ghost use Rattle.print.specs.Places.{Lays};
 ghost use Rattle.print.specs.Sinks.{Takes, SinkLaws};
 
 use crate::cursor::Cursor;
-use crate::piece::Piece;
 use wire::fault::WriteFault;
 
 pub(crate) trait Sink {
@@ -16,9 +14,9 @@ pub(crate) trait Sink {
     // What it is after a text that it takes, by what it was before.
     ghost took: { List ℕ → Self → Self → Type 0 };
 
-    // Takes a piece, if there is room for it.
-    fn take(&mut self, piece: &Piece<'_>) -> Result<(), WriteFault>
-        ensures { Takes room took (spelled piece.now) self.old self.new result };
+    // Takes bytes, if there is room for them.
+    fn take(&mut self, bytes: &[u8]) -> Result<(), WriteFault>
+        ensures { Takes room took bytes.now self.old self.new result };
 
     ghost laws: { SinkLaws took };
 }
@@ -34,10 +32,10 @@ impl Sink for Room {
 
     ghost laws = { record { none = λ s. tt; both = λ t u a b c l m. tt } };
 
-    fn take(&mut self, piece: &Piece<'_>) -> Result<(), WriteFault> {
+    fn take(&mut self, bytes: &[u8]) -> Result<(), WriteFault> {
         self.0 = self
             .0
-            .checked_sub(piece.width())
+            .checked_sub(bytes.len())
             .ok_or(WriteFault::SpaceTooShort)?;
         Ok(())
     }
@@ -50,11 +48,13 @@ impl<'a> Sink for Cursor<'a> {
 
     ghost laws = { cursor_laws };
 
-    fn take(&mut self, piece: &Piece<'_>) -> Result<(), WriteFault> {
-        if self.space.len() - self.at < piece.width() {
+    fn take(&mut self, bytes: &[u8]) -> Result<(), WriteFault> {
+        if self.space.len() - self.at < bytes.len() {
             return Err(WriteFault::SpaceTooShort);
         }
-        piece.lay(self);
+        let end = self.at + bytes.len();
+        self.space[self.at..end].copy_from_slice(bytes);
+        self.at = end;
         Ok(())
     }
 }
