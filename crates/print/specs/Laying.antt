@@ -7,7 +7,7 @@ use Rattle.print.specs.Places.{laid, Lays}
 use Rattle.print.specs.Sinks.{SinkLaws}
 
 -- no text
-pub laid_none : (at : ℕ) (xs : List ℕ) → xs ≡ laid at [] xs
+laid_none : (at : ℕ) (xs : List ℕ) → xs ≡ laid at [] xs
 laid_none at xs = let z : at ≡ at + 0 = omega arith in sym (take-append-drop at xs) ∙ ap (λ n. take at xs ++ drop n xs) z
 
 -- one text after another
@@ -41,13 +41,14 @@ length_laid at t xs h =
       length-drop (at + length t) xs,
     )
 
-pub same_length : (t : List ℕ) (a b : Cursor) → Lays t a b → length b.space.now ≡ length a.space.now
+same_length : (t : List ℕ) (a b : Cursor) → Lays t a b → length b.space.now ≡ length a.space.now
 same_length t a b l = ap length l.space ∙ length_laid a.at t a.space.now l.fits
 
+-- the same at a cursor
 lays_none : (a : Cursor) → Lays [] a a
 lays_none a = record { fits = omega (arith, a.within); at = sym (add-zero a.at); space = laid_none a.at a.space.now; same = refl }
 
-pub lays_both : (t u : List ℕ) (a b c : Cursor) → Lays t a b → Lays u b c → Lays (t ++ u) a c
+lays_both : (t u : List ℕ) (a b c : Cursor) → Lays t a b → Lays u b c → Lays (t ++ u) a c
 lays_both t u a b c l m =
     let long = length-append t u in
     let room : a.at + (length t + length u) ≤ length a.space.now = omega (arith, l.at, m.fits, same_length t a b l) in

@@ -1,5 +1,5 @@
 // The lines of a print, as the pieces that they are made of.
-ghost use Rattle.std.specs.Prelude.{◌≡◌, Some as Present, None as Absent};
+ghost use Rattle.std.specs.Prelude.{◌≡◌};
 ghost use Rattle.print.specs.Fits.{RefusalFits, AwardFits, RowFits};
 ghost use Rattle.print.specs.Lines.{refusal_line, act_head, outcome_word, row_line, no_act_line};
 ghost use Rattle.print.specs.Pieces.{spelled};
@@ -35,7 +35,7 @@ pub(crate) fn refusal_line(refusal: &Refusal) -> [Piece<'static>; 7]
 
 // The head of a void act.
 pub(crate) fn void_line<'a>(head: &'a Head<'a>) -> [Piece<'a>; 4]
-    ensures { texts spelled result ≡ act_head head.now.series head.now.word.now Absent }
+    ensures { texts spelled result ≡ act_head head.now.series head.now.word.now None }
 {
     [
         Piece::Text(&head.series),
@@ -47,8 +47,8 @@ pub(crate) fn void_line<'a>(head: &'a Head<'a>) -> [Piece<'a>; 4]
 
 // The head of an act with a cut-off.
 pub(crate) fn cut_line<'a>(head: &'a Head<'a>, award: Cut) -> [Piece<'a>; 10]
-    ensures text { texts spelled result ≡ act_head head.now.series head.now.word.now (Present award) }
-    ensures fits { AwardFits (Present award) }
+    ensures text { texts spelled result ≡ act_head head.now.series head.now.word.now (Some award) }
+    ensures fits { AwardFits (Some award) }
 {
     let Cut { cut, placed, offer } = award;
     [

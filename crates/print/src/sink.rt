@@ -28,15 +28,14 @@ pub(crate) struct Room(pub usize);
 impl Sink for Room {
     ghost room = { λ r. r.0 };
 
+    // The room says all.
     ghost took = { λ text before after. Unit {0} };
 
     ghost laws = { record { none = λ s. tt; both = λ t u a b c l m. tt } };
 
     fn take(&mut self, bytes: &[u8]) -> Result<(), WriteFault> {
-        self.0 = self
-            .0
-            .checked_sub(bytes.len())
-            .ok_or(WriteFault::SpaceTooShort)?;
+        let left = self.0.checked_sub(bytes.len());
+        self.0 = left.ok_or(WriteFault::SpaceTooShort)?;
         Ok(())
     }
 }
