@@ -7,8 +7,7 @@ use Rattle.book.specs.declared.outcome.Outcome.TheVariants.{Out}
 use Rattle.book.specs.Table.{is_decided}
 use Rattle.book.specs.Sheets.{Sheet, in_use, phase_of}
 use Rattle.book.specs.Told.{row_of, sheet_placed, sheet_cut, sheet_outcome}
-use Rattle.print.specs.declared.head.Award.{Award}
-use Rattle.print.specs.declared.head.Award.TheVariants as award
+use Rattle.print.specs.declared.head.Cut.{Cut}
 use Rattle.print.specs.declared.row.ActRow.{ActRow}
 use Rattle.print.specs.Lines.{act_head, row_line, no_act_line}
 use Rattle.print.specs.Texts.{texts}
@@ -44,9 +43,9 @@ module _ {Q : Type 0} (number : Q → ℤ) (read : ℤ → Option Q) (no_worse :
   act_rows s = rows_to s s.used
 
   -- what became of the offer
-  abbrev pub award_by : Sheet Q → Option Q → Award
-  award_by s None = award.Void
-  award_by s (Some cut) = award.Cut (number cut) (sheet_placed s) s.notice.offer
+  abbrev pub award_by : Sheet Q → Option Q → Option Cut
+  award_by s None = None
+  award_by s (Some cut) = Some (record { cut = number cut; placed = sheet_placed s; offer = s.notice.offer })
 
   -- what is printed of a book under the kind's word: its act, or that there is none
   abbrev pub act_print : List ℕ → Sheet Q → List ℕ

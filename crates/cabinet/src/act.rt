@@ -3,7 +3,6 @@ ghost use Rattle.std.specs.Prelude.{◌≡◌, ◌≤◌, ◌++◌, length, take
 ghost use Rattle.book.specs.Sheets.{in_use};
 ghost use Rattle.book.specs.Told.{row_of, sheet_cut};
 ghost use Rattle.book.specs.Views.{view};
-ghost use Rattle.print.specs.declared.ending.Ending.TheVariants.{NoAct};
 ghost use Rattle.print.specs.Lines.{refusal_line, act_text};
 ghost use Rattle.print.specs.Texts.{texts};
 ghost use Rattle.wire.specs.Writes.{Writes};
@@ -16,8 +15,8 @@ use book::book::Book;
 use book::fault::BookFault;
 use book::outcome::Outcome;
 use book::sale::Sale;
-use print::ending::Ending;
-use print::head::{Award, Head};
+use print::act::Act;
+use print::head::{Cut, Head};
 use print::refusal::Refusal;
 use print::row::ActRow;
 use print::writer::write_print;
@@ -53,17 +52,15 @@ fn act_row<S: Sale>(book: &Book<'_, S>, number: u32) -> Option<ActRow>
 }
 
 // What became of the offer.
-fn award_of<S: Sale>(book: &Book<'_, S>) -> Award
+fn award_of<S: Sale>(book: &Book<'_, S>) -> Option<Cut>
     ensures { result ≡ award_by S.Quote.Quote.number S.Quote.Quote.read S.Quote.Quote.no_worse (view book.now) (sheet_cut S.Quote.Quote.read (view book.now)) }
 {
-    match book.cut_off() {
-        Some(cut) => Award::Cut {
-            cut: cut.number(),
-            placed: book.placed(),
-            offer: book.notice().offer,
-        },
-        None => Award::Void,
-    }
+    let cut = book.cut_off()?;
+    Some(Cut {
+        cut: cut.number(),
+        placed: book.placed(),
+        offer: book.notice().offer,
+    })
 }
 
 // Fills the front of a table with the act's rows by number, and tells how many they are.
@@ -102,7 +99,7 @@ fn write_act_with<'a>(
     ensures written { Writes (texts refusal_line refusals.now ++ act_text head.entry rows.now) space.old space.new result }
     ensures enough { length refusals.now ≤ 8_192 → length head.entry.word.now ≤ 8 → length rows.now ≤ 4_096 → Suffices (length space.old) result }
 {
-    write_print(refusals, Ending::Act { head, rows }, space)
+    write_print(refusals, Some(Act { head, rows }), space)
 }
 
 // Writes the refusals, and what a book tells: its act, or that there is none.
@@ -115,7 +112,7 @@ pub(crate) fn write_with<S: Sale>(
     ensures enough { length refusals.now ≤ 8_192 → length S.Quote.Worded.word ≤ 8 → Suffices (length space.old) result }
 {
     if !book.is_decided() {
-        return write_print(refusals, no_act(refusals), space);
+        return write_print(refusals, None, space);
     }
     let mut rows = [NO_ROW; MOST_BIDS];
     let count = fill_rows(book, &mut rows);
@@ -127,13 +124,6 @@ pub(crate) fn write_with<S: Sale>(
         award: award_of(book),
     };
     write_act_with(refusals, head, &rows[0..count], space)
-}
-
-// The ending of a print without an act.
-pub(crate) fn no_act(_refusals: &[Refusal]) -> Ending<'_>
-    ensures { result ≡ NoAct }
-{
-    Ending::NoAct
 }
 
 // Writes what a book tells at the front of the space: its act, or that there is none. The count of the bytes is told, and the rest of the space is left; a space that is

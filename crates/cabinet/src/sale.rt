@@ -7,7 +7,7 @@ ghost use Rattle.wire.specs.Writes.{Writes};
 ghost use Rattle.print.specs.Lines.{no_act_line};
 ghost use Rattle.cabinet.specs.Prints.{without_act, blank_row, session_print, sale_print};
 
-use crate::act::{no_act, write_with};
+use crate::act::write_with;
 use crate::attend::{MOST_MESSAGES, attend, refusal_of};
 use crate::fault::SessionFault;
 use crate::notice::open_notice;
@@ -43,8 +43,7 @@ pub(crate) fn write_refused(refusal: Refusal, space: &mut [u8]) -> Result<usize,
     ensures written { Writes (without_act (refusal ∷ [])) space.old space.new result }
     ensures enough { Suffices (length space.old) result }
 {
-    let refusals = [refusal];
-    write_print(&refusals, no_act(&refusals), space)
+    write_print(&[refusal], None, space)
 }
 
 // The session behind a notice, in a book over these rows.

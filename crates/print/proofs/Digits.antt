@@ -1,6 +1,6 @@
 -- A number's digits, as its last digit and those before it; a negative number, as its minus sign and its digits.
-use Rattle.std.proofs.Common.{◌≡◌, ℕ, ◌+◌, ◌/◌, ◌%◌, ◌^◌, ◌<◌, ◌≤◌, false, [], ◌∷◌, ◌++◌, ℤ, pos, negsuc, nat_abs, decimal, sym, refl, ap, ◌∙◌, arith, w32, SFits, to_z, of_z}
-use lib.Signed.{le_z}
+use Rattle.std.proofs.Common.{◌≡◌, ℕ, ◌+◌, ◌/◌, ◌%◌, ◌^◌, ◌<◌, ◌≤◌, true, false, [], ◌∷◌, ◌++◌, ℤ, pos, negsuc, nat_abs, decimal, sym, refl, ap, ◌∙◌, arith, w32, SFits, to_z, of_z}
+use lib.Signed.{lt_z}
 use Rattle.std.specs.Fmt.{signed_decimal}
 use Rattle.std.proofs.lemmas.Fmt.{decimal_digit, decimal_step}
 use Rattle.std.proofs.lemmas.Int.{to_z-of_z}
@@ -16,10 +16,19 @@ one_digit n d h e =
 pub more_digits : (n d : ℕ) → 10 ≤ n → n < 2 ^ 64 → d ≡ 48 + n % 10 → decimal (n / 10) ++ (d ∷ []) ≡ decimal n
 more_digits n d h small e = ap (λ x. decimal (n / 10) ++ (x ∷ [])) e ∙ sym (decimal_step n h small)
 
-minus : (z : ℤ) → le_z (pos 0) z ≡ false → 45 ∷ decimal (nat_abs z) ≡ signed_decimal z
+minus : (z : ℤ) → lt_z z (pos 0) ≡ true → 45 ∷ decimal (nat_abs z) ≡ signed_decimal z
 minus (pos n) h = absurd (grind (arith, nat_tests))
 minus (negsuc n) h = refl
 
--- a negative number is its minus sign and the digits of its size
-pub minus_sign : (z : ℤ) (n : ℕ) → SFits w32 z → le_z (pos 0) (to_z w32 (of_z w32 z)) ≡ false → n ≡ nat_abs (to_z w32 (of_z w32 z)) → 45 ∷ decimal n ≡ signed_decimal z
-minus_sign z n f h e = ap (λ k. 45 ∷ decimal k) (e ∙ ap nat_abs (to_z-of_z w32 z f)) ∙ minus z (simp to_z-of_z at h)
+plain : (z : ℤ) → lt_z z (pos 0) ≡ false → decimal (nat_abs z) ≡ signed_decimal z
+plain (pos n) h = refl
+plain (negsuc n) h = absurd (cc)
+
+module _ (z : ℤ) (n : ℕ) (fits : SFits w32 z) (e : n ≡ nat_abs (to_z w32 (of_z w32 z))) where
+  -- a negative number is its minus sign and the digits of its size
+  pub minus_sign : lt_z (to_z w32 (of_z w32 z)) (pos 0) ≡ true → 45 ∷ decimal n ≡ signed_decimal z
+  minus_sign h = ap (λ k. 45 ∷ decimal k) (e ∙ ap nat_abs (to_z-of_z w32 z fits)) ∙ minus z (simp to_z-of_z at h)
+
+  -- any other is the digits of its size
+  pub no_sign : lt_z (to_z w32 (of_z w32 z)) (pos 0) ≡ false → decimal n ≡ signed_decimal z
+  no_sign h = ap decimal (e ∙ ap nat_abs (to_z-of_z w32 z fits)) ∙ plain z (simp to_z-of_z at h)

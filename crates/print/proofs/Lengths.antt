@@ -1,5 +1,5 @@
 -- How long a line, and a print of many lines, can be.
-use Rattle.std.proofs.Common.{◌≡◌, ℕ, ◌+◌, ◌*◌, ◌^◌, ◌<◌, ◌≤◌, List, [], ◌∷◌, length, ℤ, pos, negsuc, codes, decimal, sum_by, refl, arith, w32, SFits}
+use Rattle.std.proofs.Common.{◌≡◌, ℕ, ◌+◌, ◌*◌, ◌^◌, ◌<◌, ◌≤◌, List, [], ◌∷◌, length, ℤ, pos, negsuc, codes, decimal, sum_by, Some, None, Option, refl, arith, w32, SFits}
 use lib.Signed.{mag}
 use Rattle.std.specs.Fmt.{signed_decimal}
 use Rattle.std.proofs.lemmas.Fmt.{length-decimal-le, length_signed_le}
@@ -7,10 +7,8 @@ use Rattle.std.proofs.lemmas.List.{length-append}
 use Rattle.std.proofs.lemmas.List.Sums.{sum_by-cons}
 use Rattle.book.specs.declared.outcome.Outcome.{Outcome}
 use Rattle.book.specs.declared.outcome.Outcome.TheVariants.{Full, Part, Worse, Over, Out, Void}
-use Rattle.print.specs.declared.ending.Ending.{Ending}
-use Rattle.print.specs.declared.ending.Ending.TheVariants.{Act, NoAct}
-use Rattle.print.specs.declared.head.Award.{Award}
-use Rattle.print.specs.declared.head.Award.TheVariants.{Void as VoidAward, Cut}
+use Rattle.print.specs.declared.act.Act.{Act}
+use Rattle.print.specs.declared.head.Cut.{Cut}
 use Rattle.print.specs.declared.head.Head.{Head}
 use Rattle.print.specs.declared.refusal.Refusal.{Refusal}
 use Rattle.print.specs.declared.row.ActRow.{ActRow}
@@ -64,10 +62,10 @@ refusal_bound r f =
 pub head_bound : (h : Head) → length h.series ≡ 8 → AwardFits h.award → length (head_line h) ≤ 68 + length h.word.now
 head_bound h s f = by h.award f
   where
-    by : (a : Award) → AwardFits a → length (act_head h.series h.word.now a) ≤ 68 + length h.word.now
-    by VoidAward f = omega (arith, s, length_line (h.series ∷ h.word.now ∷ award_fields VoidAward))
-    by (Cut cut placed offer) f =
-        omega (arith, s, length_line (h.series ∷ h.word.now ∷ award_fields (Cut cut placed offer)), signed_number cut f.0, long_number placed f.1, number offer f.2)
+    by : (a : Option Cut) → AwardFits a → length (act_head h.series h.word.now a) ≤ 68 + length h.word.now
+    by None f = omega (arith, s, length_line (h.series ∷ h.word.now ∷ award_fields None))
+    by (Some c) f =
+        omega (arith, s, length_line (h.series ∷ h.word.now ∷ award_fields (Some c)), signed_number c.cut f.0, long_number c.placed f.1, number c.offer f.2)
 
 pub row_bound : (r : ActRow) → RowFits r → length (row_line r) ≤ 62
 row_bound r f =
@@ -88,11 +86,11 @@ same_for_each k [] = omega arith
 same_for_each k (x ∷ xs) = omega (arith, sum_by-cons (λ x. k) x xs, same_for_each k xs)
 
 -- the bound of a print by its refusals and its ending, from their counts
-pub print_bound : (room : ℕ) (refusals : List Refusal) (ending : Ending) → AtMost (most_parts_bytes refusals ending) room (print_text refusals ending) → Enough room refusals ending
-print_bound room refusals (Act head rows) b short h =
+pub print_bound : (room : ℕ) (refusals : List Refusal) (ending : Option Act) → AtMost (most_parts_bytes refusals ending) room (print_text refusals ending) → Enough room refusals ending
+print_bound room refusals (Some act) b short h =
     let one = same_for_each 54 refusals in
-    let two = same_for_each 62 rows.now in
+    let two = same_for_each 62 act.rows.now in
     omega (arith, short, one, two, b (omega (arith, short, h, one, two)))
-print_bound room refusals NoAct b short h =
+print_bound room refusals None b short h =
     let one = same_for_each 54 refusals in
     omega (arith, one, b (omega (arith, h, one)))

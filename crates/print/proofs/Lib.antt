@@ -1,5 +1,3 @@
 pub mod Digits
 pub mod Lengths
-pub mod Places
-pub mod Rooms
-pub mod Texts
+pub mod Sinks

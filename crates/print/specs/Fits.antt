@@ -1,8 +1,7 @@
 -- The values of what is printed fit their types.
-use Rattle.std.specs.Prelude.{◌^◌, ◌<◌, FitsSigned}
+use Rattle.std.specs.Prelude.{◌^◌, ◌<◌, Some, None, Option, FitsSigned}
 use Rattle.std.specs.Int.{w32}
-use Rattle.print.specs.declared.head.Award.{Award}
-use Rattle.print.specs.declared.head.Award.TheVariants.{Void, Cut}
+use Rattle.print.specs.declared.head.Cut.{Cut}
 use Rattle.print.specs.declared.refusal.Refusal.{Refusal}
 use Rattle.print.specs.declared.row.ActRow.{ActRow}
 
@@ -11,9 +10,9 @@ abbrev pub RefusalFits : Refusal → Type 0
 RefusalFits r = (r.ordinal < 2 ^ 64) × (r.number < 2 ^ 8) × (r.place < 2 ^ 64)
 
 -- Those of an award.
-abbrev pub AwardFits : Award → Type 0
-AwardFits Void = Unit {0}
-AwardFits (Cut cut placed offer) = FitsSigned w32 cut × (placed < 2 ^ 64) × (offer < 2 ^ 32)
+abbrev pub AwardFits : Option Cut → Type 0
+AwardFits None = Unit {0}
+AwardFits (Some c) = FitsSigned w32 c.cut × (c.placed < 2 ^ 64) × (c.offer < 2 ^ 32)
 
 -- Those of a row.
 abbrev pub RowFits : ActRow → Type 0

@@ -1,7 +1,6 @@
 -- How long a print can be.
-use Rattle.std.specs.Prelude.{ℕ, ◌+◌, ◌*◌, ◌≤◌, List, length, sum_by}
-use Rattle.print.specs.declared.ending.Ending.{Ending}
-use Rattle.print.specs.declared.ending.Ending.TheVariants.{Act, NoAct}
+use Rattle.std.specs.Prelude.{ℕ, ◌+◌, ◌*◌, ◌≤◌, List, length, sum_by, Some, None, Option}
+use Rattle.print.specs.declared.act.Act.{Act}
 use Rattle.print.specs.declared.head.Head.{Head}
 use Rattle.print.specs.declared.refusal.Refusal.{Refusal}
 use Rattle.print.specs.declared.row.ActRow.{ActRow}
@@ -24,30 +23,30 @@ abbrev pub most_row_bytes : ActRow → ℕ
 most_row_bytes r = 62
 
 -- The most bytes of an ending.
-abbrev pub most_ending_bytes : Ending → ℕ
-most_ending_bytes (Act head rows) = most_head_bytes head + sum_by most_row_bytes rows.now
-most_ending_bytes NoAct = 7
+abbrev pub most_ending_bytes : Option Act → ℕ
+most_ending_bytes (Some act) = most_head_bytes act.head + sum_by most_row_bytes act.rows.now
+most_ending_bytes None = 7
 
 -- The most bytes of these refusals and this ending.
-abbrev pub most_parts_bytes : List Refusal → Ending → ℕ
+abbrev pub most_parts_bytes : List Refusal → Option Act → ℕ
 most_parts_bytes refusals ending = sum_by most_refusal_bytes refusals + most_ending_bytes ending
 
 -- How many rows an ending has.
-abbrev pub row_count : Ending → ℕ
-row_count (Act head rows) = length rows.now
-row_count NoAct = 0
+abbrev pub row_count : Option Act → ℕ
+row_count (Some act) = length act.rows.now
+row_count None = 0
 
 -- How many bytes the word of the kind of quote has.
-abbrev pub word_length : Ending → ℕ
-word_length (Act head rows) = length head.word.now
-word_length NoAct = 0
+abbrev pub word_length : Option Act → ℕ
+word_length (Some act) = length act.head.word.now
+word_length None = 0
 
 -- The most bytes of a print with so many refusals and rows, if the word has at most 8.
 abbrev pub most_print_bytes : ℕ → ℕ → ℕ
 most_print_bytes refusals rows = 54 * refusals + (76 + 62 * rows)
 
 -- A space of that size is never too short: with room for so many bytes, the print has no more.
-abbrev pub Enough : ℕ → List Refusal → Ending → Type 0
+abbrev pub Enough : ℕ → List Refusal → Option Act → Type 0
 Enough room refusals ending =
     word_length ending ≤ 8
     → most_print_bytes (length refusals) (row_count ending) ≤ room

@@ -1,12 +1,10 @@
 -- The lines that are printed, byte by byte.
-use Rattle.std.specs.Prelude.{ℕ, List, [], ◌∷◌, ◌++◌, codes, decimal}
+use Rattle.std.specs.Prelude.{ℕ, List, [], ◌∷◌, ◌++◌, Some, None, Option, codes, decimal}
 use Rattle.std.specs.Fmt.{signed_decimal}
 use Rattle.book.specs.declared.outcome.Outcome.{Outcome}
 use Rattle.book.specs.declared.outcome.Outcome.TheVariants.{Full, Part, Worse, Over, Out, Void}
-use Rattle.print.specs.declared.ending.Ending.{Ending}
-use Rattle.print.specs.declared.ending.Ending.TheVariants.{Act, NoAct}
-use Rattle.print.specs.declared.head.Award.{Award}
-use Rattle.print.specs.declared.head.Award.TheVariants.{Void as VoidAward, Cut}
+use Rattle.print.specs.declared.act.Act.{Act}
+use Rattle.print.specs.declared.head.Cut.{Cut}
 use Rattle.print.specs.declared.head.Head.{Head}
 use Rattle.print.specs.declared.refusal.Refusal.{Refusal}
 use Rattle.print.specs.declared.row.ActRow.{ActRow}
@@ -27,12 +25,12 @@ abbrev pub refusal_line : Refusal → List ℕ
 refusal_line r = line (codes "REFUSED" ∷ decimal r.ordinal ∷ decimal r.number ∷ decimal r.place ∷ [])
 
 -- The fields of an award.
-abbrev pub award_fields : Award → List (List ℕ)
-award_fields VoidAward = codes "VOID" ∷ []
-award_fields (Cut cut placed offer) = codes "CUT" ∷ signed_decimal cut ∷ codes "PLACED" ∷ decimal placed ∷ codes "OF" ∷ decimal offer ∷ []
+abbrev pub award_fields : Option Cut → List (List ℕ)
+award_fields None = codes "VOID" ∷ []
+award_fields (Some c) = codes "CUT" ∷ signed_decimal c.cut ∷ codes "PLACED" ∷ decimal c.placed ∷ codes "OF" ∷ decimal c.offer ∷ []
 
 -- The head of an act: the series, the word of the kind of quote, and the award.
-abbrev pub act_head : List ℕ → List ℕ → Award → List ℕ
+abbrev pub act_head : List ℕ → List ℕ → Option Cut → List ℕ
 act_head series word award = line (series ∷ word ∷ award_fields award)
 
 -- The line of a head.
@@ -62,10 +60,10 @@ abbrev pub no_act_line : List ℕ
 no_act_line = line (codes "NO" ∷ codes "ACT" ∷ [])
 
 -- What a print ends with: the act, or that there is none.
-abbrev pub ending_text : Ending → List ℕ
-ending_text (Act head rows) = act_text head rows.now
-ending_text NoAct = no_act_line
+abbrev pub ending_text : Option Act → List ℕ
+ending_text (Some act) = act_text act.head act.rows.now
+ending_text None = no_act_line
 
 -- A whole print: a line for each refusal, and the ending.
-abbrev pub print_text : List Refusal → Ending → List ℕ
+abbrev pub print_text : List Refusal → Option Act → List ℕ
 print_text refusals ending = texts refusal_line refusals ++ ending_text ending

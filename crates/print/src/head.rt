@@ -1,12 +1,14 @@
 // The head of an act.
 
-// What the award came to.
+// What the award came to where something is placed.
 #[derive(Clone, Copy)]
-pub enum Award {
-    // Nothing is placed.
-    Void,
-    // The cut-off, the lots placed, and the lots offered.
-    Cut { cut: i32, placed: u64, offer: u32 },
+pub struct Cut {
+    // the cut-off
+    pub cut: i32,
+    // the lots placed
+    pub placed: u64,
+    // the lots offered
+    pub offer: u32,
 }
 
 #[derive(Clone, Copy)]
@@ -15,5 +17,6 @@ pub struct Head<'a> {
     pub series: [u8; 8],
     // the word of the kind of quote
     pub word: &'a [u8],
-    pub award: Award,
+    // the cut, or nothing where nothing is placed
+    pub award: Option<Cut>,
 }

@@ -1,11 +1,11 @@
 // The lines of a print, as the pieces that they are made of.
 ghost use Rattle.std.specs.Prelude.{◌≡◌};
-ghost use Rattle.print.specs.declared.head.Award.TheVariants.{Cut, Void};
-ghost use Rattle.print.specs.Fits.{RefusalFits, RowFits};
+ghost use Rattle.print.specs.Fits.{RefusalFits, AwardFits, RowFits};
 ghost use Rattle.print.specs.Lines.{refusal_line, act_head, outcome_word, row_line, no_act_line};
 ghost use Rattle.print.specs.Pieces.{spelled};
 ghost use Rattle.print.specs.Texts.{texts};
 
+use crate::head::{Cut, Head};
 use crate::piece::Piece;
 use crate::refusal::Refusal;
 use crate::row::ActRow;
@@ -34,31 +34,27 @@ pub(crate) fn refusal_line(refusal: &Refusal) -> [Piece<'static>; 7]
 }
 
 // The head of a void act.
-pub(crate) fn void_line<'a>(series: &'a [u8], word: &'a [u8]) -> [Piece<'a>; 4]
-    ensures { texts spelled result ≡ act_head series.now word.now Void }
+pub(crate) fn void_line<'a>(head: &'a Head<'a>) -> [Piece<'a>; 4]
+    ensures { texts spelled result ≡ act_head head.now.series head.now.word.now None }
 {
     [
-        Piece::Text(series),
+        Piece::Text(&head.series),
         Piece::Text(b" "),
-        Piece::Text(word),
+        Piece::Text(head.word),
         Piece::Text(b" VOID\n"),
     ]
 }
 
 // The head of an act with a cut-off.
-pub(crate) fn cut_line<'a>(
-    series: &'a [u8],
-    word: &'a [u8],
-    cut: i32,
-    placed: u64,
-    offer: u32,
-) -> [Piece<'a>; 10]
-    ensures { texts spelled result ≡ act_head series.now word.now (Cut cut placed offer) }
+pub(crate) fn cut_line<'a>(head: &'a Head<'a>, award: Cut) -> [Piece<'a>; 10]
+    ensures text { texts spelled result ≡ act_head head.now.series head.now.word.now (Some award) }
+    ensures fits { AwardFits (Some award) }
 {
+    let Cut { cut, placed, offer } = award;
     [
-        Piece::Text(series),
+        Piece::Text(&head.series),
         Piece::Text(b" "),
-        Piece::Text(word),
+        Piece::Text(head.word),
         Piece::Text(b" CUT "),
         Piece::Signed(cut),
         Piece::Text(b" PLACED "),

@@ -1,10 +1,15 @@
-// What can be printed: its bytes are counted first, then laid at a place in a lent space.
-ghost use Rattle.std.specs.Prelude.{◌≡◌, ℕ, ◌+◌, ◌≤◌, List, ◌++◌, length, sum_by};
+// What can be printed: its bytes are counted first, then laid in a lent space.
+ghost use Rattle.std.specs.Prelude.{ℕ, ◌+◌, List, ◌++◌, length, sum_by};
 ghost use Rattle.print.specs.Lengths.{AtMost};
-ghost use Rattle.print.specs.Places.{laid};
-ghost use Rattle.print.specs.Texts.{texts, leftover};
+ghost use Rattle.print.specs.Pieces.{spelled};
+ghost use Rattle.print.specs.Sinks.{Takes};
+ghost use Rattle.print.specs.Texts.{texts};
 ghost use Rattle.wire.specs.Writes.{Writes};
 
+use crate::cursor::Cursor;
+use crate::number::{print_number, print_signed};
+use crate::piece::Piece;
+use crate::sink::{Room, Sink};
 use wire::fault::WriteFault;
 
 pub(crate) trait Printed: Sized {
@@ -14,53 +19,37 @@ pub(crate) trait Printed: Sized {
     // The most bytes that they can be.
     ghost most: { Self → ℕ };
 
-    // What the text leaves of a room; nothing where it does not fit. Counting ends where the room does, so that the bound
-    // is told where there is room for it.
-    fn room_after(&self, room: usize) -> Option<usize>
-        ensures left { result ≡ leftover (length (text self.now)) room }
-        ensures bound { AtMost (most self.now) room (text self.now) };
-
-    // Lays the text at `at`; tells the place after it.
-    fn put(&self, space: &mut [u8], at: usize) -> usize
-        requires { at + length (text self.now) ≤ length space.old }
-        ensures end { result ≡ at + length (text self.now) }
-        ensures after { space.new ≡ laid at (text self.now) space.old };
+    // Gives the text to a sink, if there is room for it. Giving ends where the room does, so that the bound is told where
+    // there is room for it.
+    fn print<S: Sink>(&self, sink: &mut S) -> Result<(), WriteFault>
+        ensures printed { Takes S.room S.took (text self.now) sink.old sink.new result }
+        ensures bound { AtMost (most self.now) (S.room sink.old) (text self.now) };
 }
 
-// Writes the text at the front of the space and tells its count; a space that is too short is left as it was.
+// Writes the text at the front of the space and tells its count. The bytes are counted first, so that a space that is too
+// short is left as it was; where they fit, laying them cannot fail.
 pub(crate) fn write<T: Printed>(item: &T, space: &mut [u8]) -> Result<usize, WriteFault>
     ensures written { Writes (T.Printed.text item.now) space.old space.new result }
     ensures bound { AtMost (T.Printed.most item.now) (length space.old) (T.Printed.text item.now) }
 {
-    match item.room_after(space.len()) {
-        Some(_) => Ok(item.put(space, 0)),
-        None => Err(WriteFault::SpaceTooShort),
-    }
+    item.print(&mut Room(space.len()))?;
+    let mut cursor = Cursor { space, at: 0 };
+    item.print(&mut cursor)?;
+    Ok(cursor.at)
 }
 
-// What the texts of all items leave of a room; nothing where they do not fit.
-pub(crate) fn room_after_all<T: Printed>(items: &[T], room: usize) -> Option<usize>
-    ensures left { result ≡ leftover (length (texts T.Printed.text items.now)) room }
-    ensures bound { AtMost (sum_by T.Printed.most items.now) room (texts T.Printed.text items.now) }
-{
-    let mut left = room;
-    for item in items {
-        left = item.room_after(left)?;
-    }
-    Some(left)
-}
+impl<'a> Printed for Piece<'a> {
+    ghost text = { spelled };
 
-// Lays the texts of all items from `start` on; tells the place after them.
-pub(crate) fn put_all<T: Printed>(items: &[T], space: &mut [u8], start: usize) -> usize
-    requires { start + length (texts T.Printed.text items.now) ≤ length space.old }
-    ensures end { result ≡ start + length (texts T.Printed.text items.now) }
-    ensures after { space.new ≡ laid start (texts T.Printed.text items.now) space.old }
-{
-    let mut at = start;
-    for item in items {
-        at = item.put(space, at);
+    ghost most = { λ p. length (spelled p) };
+
+    fn print<S: Sink>(&self, sink: &mut S) -> Result<(), WriteFault> {
+        match self {
+            Piece::Number(n) => print_number(*n, sink),
+            Piece::Signed(z) => print_signed(*z, sink),
+            Piece::Text(text) => sink.take(text),
+        }
     }
-    at
 }
 
 // The items of a slice, one after another.
@@ -72,12 +61,11 @@ impl<'a, T: Printed> Printed for Each<'a, T> {
 
     ghost most = { λ e. sum_by T.Printed.most e.0.now };
 
-    fn room_after(&self, room: usize) -> Option<usize> {
-        room_after_all(self.0, room)
-    }
-
-    fn put(&self, space: &mut [u8], at: usize) -> usize {
-        put_all(self.0, space, at)
+    fn print<S: Sink>(&self, sink: &mut S) -> Result<(), WriteFault> {
+        for item in self.0 {
+            item.print(sink)?;
+        }
+        Ok(())
     }
 }
 
@@ -90,13 +78,8 @@ impl<A: Printed, B: Printed> Printed for Then<A, B> {
 
     ghost most = { λ t. A.Printed.most t.0 + B.Printed.most t.1 };
 
-    fn room_after(&self, room: usize) -> Option<usize> {
-        let left = self.0.room_after(room)?;
-        self.1.room_after(left)
-    }
-
-    fn put(&self, space: &mut [u8], at: usize) -> usize {
-        let next = self.0.put(space, at);
-        self.1.put(space, next)
+    fn print<S: Sink>(&self, sink: &mut S) -> Result<(), WriteFault> {
+        self.0.print(sink)?;
+        self.1.print(sink)
     }
 }

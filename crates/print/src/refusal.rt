@@ -4,7 +4,7 @@
 pub struct Refusal {
     // the ordinal of the message that was refused
     pub ordinal: usize,
-    // the number of the ground against it
+    // the number of the ground against it: the faults of all layers are printed, and their types lie above this crate
     pub number: u8,
     // the place of the byte that the refusal is about
     pub place: usize,

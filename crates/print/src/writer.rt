@@ -1,11 +1,11 @@
 // The cabinet's lines at the front of a lent space. Each call tells the count of the bytes that it wrote and leaves the
 // rest of the space; a space that is too short is left as it was.
 ghost use Rattle.std.specs.Prelude.{length};
-ghost use Rattle.print.specs.Lengths.{AtMost, Enough, most_parts_bytes};
+ghost use Rattle.print.specs.Lengths.{Enough};
 ghost use Rattle.print.specs.Lines.{refusal_line, act_text, no_act_line, print_text};
 ghost use Rattle.wire.specs.Writes.{Writes};
 
-use crate::ending::Ending;
+use crate::act::Act;
 use crate::head::Head;
 use crate::lines::no_act_line;
 use crate::printed::{Each, Then, write};
@@ -34,27 +34,15 @@ pub fn write_no_act(space: &mut [u8]) -> Result<usize, WriteFault>
     write(&no_act_line(), space)
 }
 
-// Writes the refusals and the ending, with a bound for each of them.
-fn write_parts(
-    refusals: &[Refusal],
-    ending: Ending<'_>,
-    space: &mut [u8],
-) -> Result<usize, WriteFault>
-    ensures written { Writes (print_text refusals.now ending.entry) space.old space.new result }
-    ensures bound { AtMost (most_parts_bytes refusals.now ending.entry) (length space.old) (print_text refusals.now ending.entry) }
-{
-    write(&Then(Each(refusals), ending), space)
-}
-
 // Writes a whole print: a line for each refusal, then the act or that there is none. A space of the size that
 // `most_print_bytes` states is never too short.
 pub fn write_print(
     refusals: &[Refusal],
-    ending: Ending<'_>,
+    ending: Option<Act<'_>>,
     space: &mut [u8],
 ) -> Result<usize, WriteFault>
     ensures written { Writes (print_text refusals.now ending.entry) space.old space.new result }
     ensures enough { Enough (length space.old) refusals.now ending.entry }
 {
-    write_parts(refusals, ending, space)
+    write(&Then(Each(refusals), ending), space)
 }

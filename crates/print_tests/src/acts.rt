@@ -1,6 +1,6 @@
 // The head and the rows of an act.
 use book::outcome::Outcome;
-use print::head::{Award, Head};
+use print::head::{Cut, Head};
 use print::row::ActRow;
 use print::writer::write_act;
 
@@ -21,11 +21,11 @@ fn an_act_has_a_head_and_a_line_for_each_row(rt: HostRuntime) {
     let head = Head {
         series: *b"SERIED03",
         word: b"RATE",
-        award: Award::Cut {
+        award: Some(Cut {
             cut: 640,
             placed: 100,
             offer: 100,
-        },
+        }),
     };
     let rows = [
         ActRow {
@@ -59,7 +59,7 @@ fn a_void_act_has_neither_cut_off_nor_lots(rt: HostRuntime) {
     let head = Head {
         series: *b"SERIED03",
         word: b"PRICE",
-        award: Award::Void,
+        award: None,
     };
     let rows = [ActRow {
         number: 1,
@@ -77,11 +77,11 @@ fn the_largest_numbers_and_a_negative_cut_off_are_written_in_full(rt: HostRuntim
     let head = Head {
         series: *b"SERIED03",
         word: b"DISCOUNT",
-        award: Award::Cut {
+        award: Some(Cut {
             cut: -2_147_483_648,
             placed: 18_446_744_073_709_551_615,
             offer: 4_294_967_295,
-        },
+        }),
     };
     let rows = [ActRow {
         number: 4_294_967_295,

@@ -1,13 +1,13 @@
 // Whole prints.
 use book::outcome::Outcome;
-use print::ending::Ending;
-use print::head::{Award, Head};
+use print::act::Act;
+use print::head::{Cut, Head};
 use print::refusal::Refusal;
 use print::row::ActRow;
 use print::writer::{write_no_act, write_print};
 
 // Whether the print is written as the bytes, and the rest of the space left.
-fn is_written(refusals: &[Refusal], ending: Ending<'_>, bytes: &[u8]) -> bool {
+fn is_written(refusals: &[Refusal], ending: Option<Act<'_>>, bytes: &[u8]) -> bool {
     let mut space = [238u8; 160];
     match write_print(refusals, ending, &mut space) {
         Ok(count) => count == bytes.len()
@@ -19,7 +19,7 @@ fn is_written(refusals: &[Refusal], ending: Ending<'_>, bytes: &[u8]) -> bool {
 }
 
 // Whether a space of the length is long enough for the print.
-fn fits(refusals: &[Refusal], ending: Ending<'_>, length: usize) -> bool {
+fn fits(refusals: &[Refusal], ending: Option<Act<'_>>, length: usize) -> bool {
     let mut space = [238u8; 160];
     length <= 160 && write_print(refusals, ending, &mut space[0..length]).is_ok()
 }
@@ -41,11 +41,11 @@ fn the_refusals_come_before_the_act(rt: HostRuntime) {
     let head = Head {
         series: *b"SERIED03",
         word: b"RATE",
-        award: Award::Cut {
+        award: Some(Cut {
             cut: 0,
             placed: 10,
             offer: 20,
-        },
+        }),
     };
     let rows = [
         ActRow {
@@ -73,7 +73,7 @@ fn the_refusals_come_before_the_act(rt: HostRuntime) {
             outcome: Outcome::Out,
         },
     ];
-    let act = Ending::Act { head, rows: &rows };
+    let act = Some(Act { head, rows: &rows });
     assert!(rt;
         is_written(
             &refusals,
@@ -86,14 +86,14 @@ fn the_refusals_come_before_the_act(rt: HostRuntime) {
 
 #[test]
 fn a_book_without_an_act_is_told(rt: HostRuntime) {
-    assert!(rt; is_written(&[], Ending::NoAct, b"NO ACT\n"));
-    assert!(rt; fits(&[], Ending::NoAct, 7) && !fits(&[], Ending::NoAct, 6));
+    assert!(rt; is_written(&[], None, b"NO ACT\n"));
+    assert!(rt; fits(&[], None, 7) && !fits(&[], None, 6));
     let refusals = [Refusal {
         ordinal: 0,
         number: 17,
         place: 0,
     }];
-    assert!(rt; is_written(&refusals, Ending::NoAct, b"REFUSED 0 17 0\nNO ACT\n"));
+    assert!(rt; is_written(&refusals, None, b"REFUSED 0 17 0\nNO ACT\n"));
     let mut space = [238u8; 8];
     assert!(rt; write_no_act(&mut space).is_ok());
     assert!(rt; &space == b"NO ACT\n\xee");

@@ -1,5 +1,4 @@
-use Rattle.std.proofs.Common.{length, ap, arith, length-take, rules}
-use Rattle.print.specs.Lengths.{word_length, row_count}
+use Rattle.std.proofs.Common.{length, None, ap, arith, length-take, rules}
 use Rattle.cabinet.proofs.Sufficing.{print_suffices}
 use Rattle.cabinet.proofs.act.write_with.Goals as goal
 
@@ -7,8 +6,8 @@ pub returns-then-not-is_decided : goal.returns-then-not-is_decided
 returns-then-not-is_decided g c =
     record {
       written = search rules;
-      enough = λ few short. print_suffices c.args.refusals.now c.no_act.result c.args.space.now _ _ c.write_print.ensures.written c.write_print.ensures.enough few
-          (omega (arith, ap word_length c.no_act.ensures)) (omega (arith, ap row_count c.no_act.ensures));
+      enough = λ few short. print_suffices c.args.refusals.now None c.args.space.now _ _ c.write_print.ensures.written c.write_print.ensures.enough few
+          (omega arith) (omega arith);
     }
 
 pub returns : goal.returns
