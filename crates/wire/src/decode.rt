@@ -1,8 +1,10 @@
 // The fields of a message out of its bytes.
 ghost use Rattle.std.specs.Prelude.{◌≡◌, ◌+◌, ◌≤◌, length};
 ghost use Rattle.wire.specs.Grounds.{length_of};
+ghost use Rattle.wire.specs.Kinds.{number_of};
 ghost use Rattle.wire.specs.Reading.{notice_at_front, entry_at_front, change_at_front, withdrawal_at_front, decoded};
 
+use crate::kind::Kind;
 use crate::message::Message;
 use crate::number::{i32_at, u32_at};
 
@@ -79,19 +81,20 @@ fn withdrawal(b: &[u8]) -> Message
 }
 
 // The message of a kind whose bytes stand at the front of `b`.
-pub(crate) fn decode(b: &[u8], kind: u8) -> Message
-    requires { 2 + length_of kind ≤ length b.now }
-    ensures { result ≡ decoded kind b.now }
+#[tactic(auto, unfolding(crate::specs::Reading::decoded))]
+pub(crate) fn decode(b: &[u8], kind: Kind) -> Message
+    requires { 2 + length_of (number_of kind) ≤ length b.now }
+    ensures { result ≡ decoded (number_of kind) b.now }
 {
     match kind {
-        0 => notice(b),
-        1 => entry(b),
-        2 => change(b),
-        3 => withdrawal(b),
-        4 => Message::Close {
+        Kind::Notice => notice(b),
+        Kind::Entry => entry(b),
+        Kind::Change => change(b),
+        Kind::Withdrawal => withdrawal(b),
+        Kind::Close => Message::Close {
             second: u32_at(b, 4),
         },
-        _ => Message::Limit {
+        Kind::Limit => Message::Limit {
             quote: i32_at(b, 4),
         },
     }

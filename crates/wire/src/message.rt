@@ -1,4 +1,12 @@
 // A message, by kind. A series code stands in its case as eight single bytes.
+ghost use Rattle.std.specs.Prelude.{◌≡◌, ◌+◌, length};
+ghost use Rattle.wire.specs.Grounds.{length_of};
+ghost use Rattle.wire.specs.Kinds.{number_of, call_of};
+ghost use Rattle.wire.specs.Messages.{kind_of, encode};
+ghost use Rattle.wire.specs.RoundTrips.{call_for};
+
+use crate::kind::Kind;
+
 #[derive(Clone, Copy)]
 pub enum Message {
     // Kind 0: what is offered, under which rules and when.
@@ -58,4 +66,29 @@ pub enum Message {
     Limit {
         quote: i32,
     },
+}
+
+impl Message {
+    // The kind of the message, which tells its width and the call that takes it.
+    pub(crate) fn kind(&self) -> Kind
+        ensures number { number_of result ≡ kind_of self.now }
+        ensures call { call_of result ≡ call_for self.now }
+        ensures width { 2 + length_of (number_of result) ≡ length (encode self.now) }
+    {
+        match self {
+            Message::Notice { .. } => Kind::Notice,
+            Message::Entry { .. } => Kind::Entry,
+            Message::Change { .. } => Kind::Change,
+            Message::Withdrawal { .. } => Kind::Withdrawal,
+            Message::Close { .. } => Kind::Close,
+            Message::Limit { .. } => Kind::Limit,
+        }
+    }
+
+    // How many bytes the message has: the two of the length, and those that the length counts.
+    pub(crate) fn width(&self) -> usize
+        ensures { result ≡ length (encode self.now) }
+    {
+        2 + self.kind().length()
+    }
 }
