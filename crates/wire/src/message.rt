@@ -7,6 +7,12 @@ ghost use Rattle.wire.specs.RoundTrips.{call_for};
 
 use crate::kind::Kind;
 
+// How many bytes stand before the fields: two of the length, the version and the kind.
+pub(crate) const HEAD: usize = 4;
+
+// The version, which stands in the third byte.
+pub(crate) const VERSION: u8 = 1;
+
 #[derive(Clone, Copy)]
 pub enum Message {
     // Kind 0: what is offered, under which rules and when.

@@ -1,20 +1,28 @@
 // The writer: a message's bytes at the front of a lent space.
+ghost use Rattle.std.specs.Prelude.{◌+◌, ◌≤◌, ◌∷◌, ◌++◌, length};
+ghost use Rattle.wire.specs.Kinds.{number_of};
 ghost use Rattle.wire.specs.Messages.{encode};
+ghost use Rattle.wire.specs.Numbers.{two};
 ghost use Rattle.wire.specs.RoundTrips.{ComesBack};
 ghost use Rattle.wire.specs.Writes.{Writes};
 
 use crate::fault::WriteFault;
-use crate::message::Message;
+use crate::kind::Kind;
+use crate::message::{Message, HEAD, VERSION};
 
-// Lays the bytes at the front of the space and tells their count; a space that is too short is left as it was.
-fn put(bytes: &[u8], space: &mut [u8]) -> Result<usize, WriteFault>
-    ensures { Writes bytes.now space.old space.new result }
+// Lays the head and the fields of a message of the kind at the front of the space and tells the count of their bytes; a
+// space that is too short is left as it was.
+fn put(kind: Kind, fields: &[u8], space: &mut [u8]) -> Result<usize, WriteFault>
+    requires { length fields.now ≤ 31 }
+    ensures { Writes (two (2 + length fields.now) ++ (1 ∷ number_of kind ∷ fields.now)) space.old space.new result }
 {
-    let count = bytes.len();
+    let count = HEAD + fields.len();
     if space.len() < count {
         return Err(WriteFault::SpaceTooShort);
     }
-    space[..count].copy_from_slice(bytes);
+    let [high, low] = (2 + fields.len() as u16).to_be_bytes();
+    space[..HEAD].copy_from_slice(&[high, low, VERSION, kind as u8]);
+    space[HEAD..count].copy_from_slice(fields);
     Ok(count)
 }
 
@@ -49,11 +57,11 @@ pub fn write(message: &Message, space: &mut [u8]) -> Result<usize, WriteFault>
             let [p0, p1, p2, p3] = placement.to_be_bytes();
             let [b0, b1, b2, b3] = opening.to_be_bytes();
             let [e0, e1, e2, e3] = closing.to_be_bytes();
-            let bytes = [
-                0, 33, 1, 0, quote, rule, s0, s1, s2, s3, s4, s5, s6, s7, o0, o1, o2, o3, m0, m1,
+            let fields = [
+                quote, rule, s0, s1, s2, s3, s4, s5, s6, s7, o0, o1, o2, o3, m0, m1,
                 m2, m3, p0, p1, p2, p3, least, b0, b1, b2, b3, e0, e1, e2, e3,
             ];
-            put(&bytes, space)
+            put(Kind::Notice, &fields, space)
         }
         Message::Entry {
             s0,
@@ -73,11 +81,11 @@ pub fn write(message: &Message, space: &mut [u8]) -> Result<usize, WriteFault>
             let [t0, t1, t2, t3] = second.to_be_bytes();
             let [q0, q1, q2, q3] = quote.to_be_bytes();
             let [l0, l1, l2, l3] = lots.to_be_bytes();
-            let bytes = [
-                0, 26, 1, 1, s0, s1, s2, s3, s4, s5, s6, s7, h0, h1, h2, h3, t0, t1, t2, t3, q0,
+            let fields = [
+                s0, s1, s2, s3, s4, s5, s6, s7, h0, h1, h2, h3, t0, t1, t2, t3, q0,
                 q1, q2, q3, l0, l1, l2, l3,
             ];
-            put(&bytes, space)
+            put(Kind::Entry, &fields, space)
         }
         Message::Change {
             number,
@@ -91,11 +99,11 @@ pub fn write(message: &Message, space: &mut [u8]) -> Result<usize, WriteFault>
             let [t0, t1, t2, t3] = second.to_be_bytes();
             let [q0, q1, q2, q3] = quote.to_be_bytes();
             let [l0, l1, l2, l3] = lots.to_be_bytes();
-            let bytes = [
-                0, 22, 1, 2, n0, n1, n2, n3, h0, h1, h2, h3, t0, t1, t2, t3, q0, q1, q2, q3, l0,
+            let fields = [
+                n0, n1, n2, n3, h0, h1, h2, h3, t0, t1, t2, t3, q0, q1, q2, q3, l0,
                 l1, l2, l3,
             ];
-            put(&bytes, space)
+            put(Kind::Change, &fields, space)
         }
         Message::Withdrawal {
             number,
@@ -105,16 +113,14 @@ pub fn write(message: &Message, space: &mut [u8]) -> Result<usize, WriteFault>
             let [n0, n1, n2, n3] = number.to_be_bytes();
             let [h0, h1, h2, h3] = house.to_be_bytes();
             let [t0, t1, t2, t3] = second.to_be_bytes();
-            let bytes = [0, 14, 1, 3, n0, n1, n2, n3, h0, h1, h2, h3, t0, t1, t2, t3];
-            put(&bytes, space)
+            let fields = [n0, n1, n2, n3, h0, h1, h2, h3, t0, t1, t2, t3];
+            put(Kind::Withdrawal, &fields, space)
         }
         Message::Close { second } => {
-            let [t0, t1, t2, t3] = second.to_be_bytes();
-            put(&[0, 6, 1, 4, t0, t1, t2, t3], space)
+            put(Kind::Close, &second.to_be_bytes(), space)
         }
         Message::Limit { quote } => {
-            let [q0, q1, q2, q3] = quote.to_be_bytes();
-            put(&[0, 6, 1, 5, q0, q1, q2, q3], space)
+            put(Kind::Limit, &quote.to_be_bytes(), space)
         }
     }
 }
