@@ -21,13 +21,7 @@ abbrev pub Bytes : List ℕ → Type 0
 Bytes b = (i : ℕ) → Fits w8 (get_or b i 0)
 
 four_of : (p q r s : ℕ) → p < 256 → q < 256 → r < 256 → s < 256 → four (p * 16777216 + q * 65536 + r * 256 + s) ≡ p ∷ q ∷ r ∷ s ∷ []
-four_of p q r s hp hq hr hs =
-    let n = p * 16777216 + q * 65536 + r * 256 + s in
-    let e0 : n / 16777216 % 256 ≡ p = omega arith in
-    let e1 : n / 65536 % 256 ≡ q = omega arith in
-    let e2 : n / 256 % 256 ≡ r = omega arith in
-    let e3 : n % 256 ≡ s = omega arith in
-    cc
+four_of p q r s hp hq hr hs = grind arith
 
 -- a field at i, and then what follows it
 module _ (b : List ℕ) (i : ℕ) where

@@ -1,7 +1,7 @@
 -- A message that is written and read is the same message.
 use Rattle.std.proofs.Common.{◌≡◌, ℕ, ◌+◌, ◌*◌, ◌/◌, ◌%◌, ◌^◌, ◌<◌, ◌≤◌, true, List, ◌++◌, length, get_or, ℤ, pos, negsuc, Some, Ok, Option, Result, sym, refl, ap, ◌∙◌, subst, arith, w32, SFits, to_z, of_z}
-use native.Mathlib.Nat.{div-div-eq-div-mul}
 use Rattle.std.proofs.lemmas.Int.{to_z-of_z}
+use Rattle.std.proofs.lemmas.Nat.{from_be_bytes-to_be_bytes_4}
 use Rattle.std.proofs.lemmas.Bool.Decides.{nat_tests}
 use Rattle.wire.specs.Grounds.{taken, length_of}
 use Rattle.wire.specs.Messages.{kind_of, encode}
@@ -24,22 +24,9 @@ Fitting (Withdrawal n h t) = (n < 2 ^ 32) × (h < 2 ^ 32) × (t < 2 ^ 32)
 Fitting (Close t) = t < 2 ^ 32
 Fitting (Limit q) = SFits w32 q
 
-split : (m : ℕ) → m ≡ 256 * (m / 256) + m % 256
-split m = omega arith
-
-join : (n a b c r0 r1 r2 r3 : ℕ) → n ≡ 256 * a + r0 → a ≡ 256 * b + r1 → b ≡ 256 * c + r2 → r3 ≡ c → r3 * 16777216 + r2 * 65536 + r1 * 256 + r0 ≡ n
-join n a b c r0 r1 r2 r3 e0 e1 e2 e3 = omega arith
-
 -- a number out of its own bytes
-pub four_back : (n : ℕ) → n < 2 ^ 32 → four_at (four n) 0 ≡ n
-four_back n h =
-    let e1 : n / 256 / 256 ≡ n / 65536 = div-div-eq-div-mul n 256 256 in
-    let e2 : n / 65536 / 256 ≡ n / 16777216 = div-div-eq-div-mul n 65536 256 in
-    let s1 = split (n / 256) in
-    let s2 = split (n / 65536) in
-    let top : n / 16777216 % 256 ≡ n / 16777216 = omega arith in
-    join n (n / 256) (n / 65536) (n / 16777216) (n % 256) (n / 256 % 256) (n / 65536 % 256) (n / 16777216 % 256)
-    (split n) (rw e1 at s1) (rw e2 at s2) top
+four_back : (n : ℕ) → n < 2 ^ 32 → four_at (four n) 0 ≡ n
+four_back n h = omega (arith, from_be_bytes-to_be_bytes_4 n h)
 
 bits_small : (z : ℤ) → SFits w32 z → of_z w32 z < 2 ^ 32
 bits_small (pos n) f = omega (arith, f.sfits)
@@ -106,18 +93,3 @@ pub comes_back : (m : Message) → Fitting m → ComesBack m
 comes_back m f call more takes =
     let given : Message → Result (Option Message) ReadFault = λ x. Ok (Some x) in
     accepts call (encode m ++ more) takes (long m more) (says m more) refl ∙ ap given (fields_back m more f)
-
--- what is written of the bytes of a message is written of the message, and comes back
-pub record Sent (m : Message) (before after : List ℕ) (r : Result ℕ WriteFault) : Type 0 where
-  pub written : Writes (encode m) before after r
-  pub back : ComesBack m
-
-pub sent : (m n : Message) (text before after : List ℕ) (r : Result ℕ WriteFault) → m ≡ n → Fitting n → text ≡ encode n → Writes text before after r → Sent m before after r
-sent m n text before after r e f t w =
-    let P : Message → Type 0 = λ x. Sent x before after r in
-    let Q : List ℕ → Type 0 = λ x. Writes x before after r in
-    subst P (sym e) (record { written = subst Q t w; back = comes_back n f })
-
--- a signed field passes through its bits, which changes nothing
-pub through_bits : (f : ℤ → Message) (q : ℤ) (text : List ℕ) → SFits w32 q → text ≡ encode (f (to_z w32 (of_z w32 q))) → text ≡ encode (f q)
-through_bits f q text fits e = e ∙ ap (λ z. encode (f z)) (to_z-of_z w32 q fits)

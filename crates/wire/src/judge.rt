@@ -6,6 +6,7 @@ ghost use Rattle.wire.specs.Kinds.{number_of};
 use crate::call::Call;
 use crate::fault::ReadFault;
 use crate::kind::Kind;
+use crate::message::VERSION;
 
 // The kind of the message at the front of `rest`, or the first ground there is against it.
 pub(crate) fn judge(rest: &[u8], call: Call) -> Result<Kind, ReadFault>
@@ -23,7 +24,7 @@ pub(crate) fn judge(rest: &[u8], call: Call) -> Result<Kind, ReadFault>
     if length < 2 {
         return Err(ReadFault::LengthBelowTwo);
     }
-    if rest[2] != 1 {
+    if rest[2] != VERSION {
         return Err(ReadFault::WrongVersion);
     }
     let kind = Kind::try_from(rest[3])?;

@@ -7,7 +7,7 @@ fn bytes_at(bytes: &[u8], at: usize) -> [u8; 4]
     requires { at + 4 ≤ length bytes.now }
     ensures { result ≡ slice_index bytes.now at ∷ slice_index bytes.now (at + 1) ∷ slice_index bytes.now (at + 2) ∷ slice_index bytes.now (at + 3) ∷ [] }
 {
-    [bytes[at], bytes[at + 1], bytes[at + 2], bytes[at + 3]]
+    *bytes[at..].first_chunk().unwrap()
 }
 
 // The number of four bytes at `at`.
