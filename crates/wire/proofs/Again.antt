@@ -101,21 +101,11 @@ module _ (b : List ℕ) (f : Bytes b) (version : get_or b 2 0 ≡ 1) where
 
 kind_decoded : (k : Kind) (b : List ℕ) → kind_of (decoded (number_of k) b) ≡ number_of k
 unfolding decoded
-kind_decoded Notice b = refl
-kind_decoded Entry b = refl
-kind_decoded Change b = refl
-kind_decoded Withdrawal b = refl
-kind_decoded Close b = refl
-kind_decoded Limit b = refl
+kind_decoded k b = grind arith
 
 length_decoded : (k : Kind) (b : List ℕ) → length (encode (decoded (number_of k) b)) ≡ 2 + length_of (number_of k)
 unfolding decoded
-length_decoded Notice b = refl
-length_decoded Entry b = refl
-length_decoded Change b = refl
-length_decoded Withdrawal b = refl
-length_decoded Close b = refl
-length_decoded Limit b = refl
+length_decoded k b = grind arith
 
 -- all that is told of a message against which there is no ground
 pub accepted : (call : Call) (b : List ℕ) (k : Kind) (m : Message) → Bytes b → verdict (grounds call b) ≡ Ok tt → number_of k ≡ get_or b 3 0 → m ≡ decoded (number_of k) b → Replies call b (Ok (Some m)) × (length (encode m) ≤ length b)

@@ -37,20 +37,10 @@ signed_back z f = ap (to_z w32) (four_back (of_z w32 z) (bits_small z f)) ∙ to
 
 -- the head of a message's bytes says how long they are
 long : (m : Message) (more : List ℕ) → 2 + length_of (kind_of m) ≤ length (encode m ++ more)
-long (Notice c r s0 s1 s2 s3 s4 s5 s6 s7 o m p n a z) more = omega arith
-long (Entry s0 s1 s2 s3 s4 s5 s6 s7 h t q l) more = omega arith
-long (Change n h t q l) more = omega arith
-long (Withdrawal n h t) more = omega arith
-long (Close t) more = omega arith
-long (Limit q) more = omega arith
+long m more = grind arith
 
 says : (m : Message) (more : List ℕ) → two_at (encode m ++ more) 0 ≡ length_of (kind_of m)
-says (Notice c r s0 s1 s2 s3 s4 s5 s6 s7 o m p n a z) more = refl
-says (Entry s0 s1 s2 s3 s4 s5 s6 s7 h t q l) more = refl
-says (Change n h t q l) more = refl
-says (Withdrawal n h t) more = refl
-says (Close t) more = refl
-says (Limit q) more = refl
+says m more = grind arith
 
 -- so there is no ground against it
 accepts : (call : Call) (b : List ℕ) → taken call (get_or b 3 0) ≡ true → 2 + length_of (get_or b 3 0) ≤ length b → two_at b 0 ≡ length_of (get_or b 3 0) → get_or b 2 0 ≡ 1 → reading call b ≡ Ok (Some (decoded (get_or b 3 0) b))
