@@ -51,33 +51,7 @@ accepts call b takes long says version =
 -- and its fields are those that were written
 fields_back : (m : Message) (more : List ℕ) → Fitting m → decoded (kind_of m) (encode m ++ more) ≡ m
 unfolding decoded
-fields_back (Notice c r s0 s1 s2 s3 s4 s5 s6 s7 o m p n a z) more f =
-    let e0 = four_back o f.0 in
-    let e1 = four_back m f.1 in
-    let e2 = four_back p f.2 in
-    let e3 = four_back a f.3 in
-    let e4 = four_back z f.4 in
-    cc
-fields_back (Entry s0 s1 s2 s3 s4 s5 s6 s7 h t q l) more f =
-    let e0 = four_back h f.0 in
-    let e1 = four_back t f.1 in
-    let e2 = signed_back q f.2 in
-    let e3 = four_back l f.3 in
-    cc
-fields_back (Change n h t q l) more f =
-    let e0 = four_back n f.0 in
-    let e1 = four_back h f.1 in
-    let e2 = four_back t f.2 in
-    let e3 = signed_back q f.3 in
-    let e4 = four_back l f.4 in
-    cc
-fields_back (Withdrawal n h t) more f =
-    let e0 = four_back n f.0 in
-    let e1 = four_back h f.1 in
-    let e2 = four_back t f.2 in
-    cc
-fields_back (Close t) more f = ap Close (four_back t f)
-fields_back (Limit q) more f = ap Limit (signed_back q f)
+fields_back m more f = grind (arith, four_back, signed_back)
 
 pub comes_back : (m : Message) → Fitting m → ComesBack m
 comes_back m f call more takes =

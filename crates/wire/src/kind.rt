@@ -1,6 +1,6 @@
 // The kinds of a message, each by the number that stands for it in the message's fourth byte.
-ghost use Rattle.std.specs.Prelude.{◌≡◌};
-ghost use Rattle.wire.specs.Grounds.{length_of};
+ghost use Rattle.std.specs.Prelude.{◌≡◌, true};
+ghost use Rattle.wire.specs.Grounds.{taken, length_of};
 ghost use Rattle.wire.specs.Kinds.{number_of, call_of, Names};
 
 use crate::call::Call;
@@ -37,7 +37,7 @@ impl TryFrom<u8> for Kind {
 impl Kind {
     // The call that takes the kind.
     pub(crate) fn call(self) -> Call
-        ensures { result ≡ call_of self }
+        ensures { taken result (number_of self) ≡ true }
     {
         match self {
             Kind::Notice => Call::Opening,

