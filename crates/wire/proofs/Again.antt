@@ -1,5 +1,5 @@
 -- An accepted message, written again, is the bytes that it was read from.
-use Rattle.std.proofs.Common.{◌≡◌, ℕ, ◌+◌, ◌*◌, ◌/◌, ◌%◌, ◌^◌, ◌<◌, ◌≤◌, List, [], ◌∷◌, ◌++◌, length, get_or, drop, Some, Ok, sym, refl, ap, ◌∙◌, subst, arith, w8, w32, Fits}
+use Rattle.std.proofs.Common.{◌≡◌, ℕ, ◌+◌, ◌*◌, ◌/◌, ◌%◌, ◌^◌, ◌<◌, ◌≤◌, true, List, [], ◌∷◌, ◌++◌, length, get_or, drop, Some, Ok, sym, refl, ap, ◌∙◌, subst, arith, w8, w32, Fits}
 use Rattle.std.proofs.lemmas.List.{drop_more}
 use Rattle.std.proofs.lemmas.Int.{of_z-to_z}
 use Rattle.std.proofs.lemmas.Bool.Decides.{nat_tests}
@@ -7,14 +7,13 @@ use Rattle.wire.specs.Grounds.{taken, length_of, grounds, verdict}
 use Rattle.wire.specs.Kinds.{number_of}
 use Rattle.wire.specs.Messages.{kind_of, series, encode}
 use Rattle.wire.specs.Numbers.{two, four, signed, two_at, four_at, signed_at}
-use Rattle.wire.specs.Reading.{notice_at_front, entry_at_front, change_at_front, withdrawal_at_front, decoded, reading}
+use Rattle.wire.specs.Reading.{decoded, reading}
 use Rattle.wire.specs.Reads.{Replies}
 use Rattle.wire.specs.RoundTrips.{BeginWith}
 use Rattle.wire.specs.declared.call.Call.{Call}
 use Rattle.wire.specs.declared.kind.Kind.{Kind}
 use Rattle.wire.specs.declared.kind.Kind.TheVariants.{Notice, Entry, Change, Withdrawal, Close, Limit}
 use Rattle.wire.specs.declared.message.Message.{Message}
-use Rattle.wire.proofs.Heads.{Headed, headed}
 
 -- each number of the list is a byte
 abbrev pub Bytes : List ℕ → Type 0
@@ -110,16 +109,19 @@ length_decoded k b = grind arith
 -- all that is told of a message against which there is no ground
 pub accepted : (call : Call) (b : List ℕ) (k : Kind) (m : Message) → Bytes b → verdict (grounds call b) ≡ Ok tt → number_of k ≡ get_or b 3 0 → m ≡ decoded (number_of k) b → Replies call b (Ok (Some m)) × (length (encode m) ≤ length b)
 accepted call b k m f none kind is =
-    let h = headed call b none in
     let n = number_of k in
-    let long : 2 + length_of n ≤ length b = rw kind h.long in
+    let takes : taken call (get_or b 3 0) ≡ true = grind (arith, nat_tests) in
+    let long : 2 + length_of n ≤ length b = grind (arith, nat_tests) in
+    let says : two_at b 0 ≡ length_of n = grind (arith, nat_tests) in
+    let version : get_or b 2 0 ≡ 1 = grind (arith, nat_tests) in
     let told : reading call b ≡ Ok (Some (decoded n b)) = grind (arith, nat_tests) in
     let P : Message → Type 0 = λ x. Replies call b (Ok (Some x)) × (length (encode x) ≤ length b) in
-    subst P (sym is)
-    (record {
+    subst P (sym is) (
+      record {
         told = sym told;
-        kind = ap (taken call) (kind_decoded k b ∙ kind) ∙ h.takes;
-        again = again b f h.version k long (h.says ∙ ap length_of (sym kind)) (sym kind);
-        seen = tt
+        kind = ap (taken call) (kind_decoded k b ∙ kind) ∙ takes;
+        again = again b f version k long says (sym kind);
+        seen = tt;
       },
-      omega (arith, length_decoded k b))
+      omega (arith, length_decoded k b),
+    )

@@ -1,5 +1,6 @@
 -- A message that is written and read is the same message.
-use Rattle.std.proofs.Common.{◌≡◌, ℕ, ◌+◌, ◌*◌, ◌/◌, ◌%◌, ◌^◌, ◌<◌, ◌≤◌, true, List, ◌++◌, length, get_or, ℤ, pos, negsuc, Some, Ok, Option, Result, sym, refl, ap, ◌∙◌, subst, arith, w32, SFits, to_z, of_z}
+use Rattle.std.proofs.Common.{◌≡◌, ℕ, ◌+◌, ◌^◌, ◌<◌, ◌≤◌, true, List, ◌++◌, length, get_or, ℤ, Some, Ok, Option, Result, refl, ap, ◌∙◌, arith, w32, SFits, to_z, of_z}
+use Rattle.std.proofs.Math.Facts.{Fits-of_z}
 use Rattle.std.proofs.lemmas.Int.{to_z-of_z}
 use Rattle.std.proofs.lemmas.Nat.{from_be_bytes-to_be_bytes_4}
 use Rattle.std.proofs.lemmas.Bool.Decides.{nat_tests}
@@ -8,10 +9,8 @@ use Rattle.wire.specs.Messages.{kind_of, encode}
 use Rattle.wire.specs.Numbers.{two_at, four_at, signed_at, four, signed}
 use Rattle.wire.specs.Reading.{decoded, reading}
 use Rattle.wire.specs.RoundTrips.{ComesBack}
-use Rattle.wire.specs.Writes.{Writes}
 use Rattle.wire.specs.declared.call.Call.{Call}
 use Rattle.wire.specs.declared.fault.ReadFault.{ReadFault}
-use Rattle.wire.specs.declared.fault.WriteFault.{WriteFault}
 use Rattle.wire.specs.declared.message.Message.{Message}
 use Rattle.wire.specs.declared.message.Message.TheVariants.{Notice, Entry, Change, Withdrawal, Close, Limit}
 
@@ -28,12 +27,8 @@ Fitting (Limit q) = SFits w32 q
 four_back : (n : ℕ) → n < 2 ^ 32 → four_at (four n) 0 ≡ n
 four_back n h = omega (arith, from_be_bytes-to_be_bytes_4 n h)
 
-bits_small : (z : ℤ) → SFits w32 z → of_z w32 z < 2 ^ 32
-bits_small (pos n) f = omega (arith, f.sfits)
-bits_small (negsuc n) f = omega (arith, f.sfits)
-
 signed_back : (z : ℤ) → SFits w32 z → signed_at (signed z) 0 ≡ z
-signed_back z f = ap (to_z w32) (four_back (of_z w32 z) (bits_small z f)) ∙ to_z-of_z w32 z f
+signed_back z f = ap (to_z w32) (four_back (of_z w32 z) (omega (arith, (Fits-of_z f).fits))) ∙ to_z-of_z w32 z f
 
 -- the head of a message's bytes says how long they are
 long : (m : Message) (more : List ℕ) → 2 + length_of (kind_of m) ≤ length (encode m ++ more)

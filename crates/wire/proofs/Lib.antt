@@ -1,4 +1,3 @@
-pub mod Heads
 pub mod Again
 pub mod ComesBack
 pub mod Returns

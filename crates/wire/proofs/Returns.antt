@@ -1,5 +1,5 @@
 -- A message that is written into a space is read from there.
-use Rattle.std.proofs.Common.{◌≡◌, ℕ, true, List, ◌++◌, length, drop, Some, Ok, refl, ap, ◌∙◌, arith}
+use Rattle.std.proofs.Common.{◌≡◌, ℕ, true, List, ◌++◌, length, drop, Some, Ok, ap, ◌∙◌, arith}
 use Rattle.wire.specs.Grounds.{taken}
 use Rattle.wire.specs.Messages.{kind_of, encode}
 use Rattle.wire.specs.Reading.{reading}
@@ -9,7 +9,6 @@ use Rattle.wire.specs.Writes.{Writes}
 use Rattle.wire.specs.declared.back.Back.{Back}
 use Rattle.wire.specs.declared.fault.WriteFault.{WriteFault}
 use Rattle.wire.specs.declared.message.Message.{Message}
-use Rattle.wire.specs.declared.message.Message.TheVariants.{Notice, Entry, Change, Withdrawal, Close, Limit}
 
 takes : (m : Message) → taken (call_for m) (kind_of m) ≡ true
 takes m = grind arith

@@ -1,7 +1,5 @@
--- The kinds of a message: the number of each, and the call that takes it.
+-- The kinds of a message, and the number of each.
 use Rattle.std.specs.Prelude.{◌≡◌, ℕ, ◌<◌, Result, MatchResult}
-use Rattle.wire.specs.declared.call.Call.{Call}
-use Rattle.wire.specs.declared.call.Call.TheVariants.{Opening, Session}
 use Rattle.wire.specs.declared.fault.ReadFault.{ReadFault}
 use Rattle.wire.specs.declared.fault.ReadFault.TheVariants.{WrongKind}
 use Rattle.wire.specs.declared.kind.Kind.{Kind}
@@ -15,15 +13,6 @@ number_of Change = 2
 number_of Withdrawal = 3
 number_of Close = 4
 number_of Limit = 5
-
--- The call that takes a kind.
-abbrev pub call_of : Kind → Call
-call_of Notice = Opening
-call_of Entry = Session
-call_of Change = Session
-call_of Withdrawal = Session
-call_of Close = Session
-call_of Limit = Session
 
 -- A byte is the number of a kind, or above all of them.
 abbrev pub Names : ℕ → Result Kind ReadFault → Type 0

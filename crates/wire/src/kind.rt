@@ -1,7 +1,7 @@
 // The kinds of a message, each by the number that stands for it in the message's fourth byte.
 ghost use Rattle.std.specs.Prelude.{◌≡◌, true};
 ghost use Rattle.wire.specs.Grounds.{taken, length_of};
-ghost use Rattle.wire.specs.Kinds.{number_of, call_of, Names};
+ghost use Rattle.wire.specs.Kinds.{number_of, Names};
 
 use crate::call::Call;
 use crate::fault::ReadFault;

@@ -1,9 +1,7 @@
 // A message, by kind. A series code stands in its case as eight single bytes.
-ghost use Rattle.std.specs.Prelude.{◌≡◌, ◌+◌, length};
-ghost use Rattle.wire.specs.Grounds.{length_of};
-ghost use Rattle.wire.specs.Kinds.{number_of, call_of};
+ghost use Rattle.std.specs.Prelude.{◌≡◌, length};
+ghost use Rattle.wire.specs.Kinds.{number_of};
 ghost use Rattle.wire.specs.Messages.{kind_of, encode};
-ghost use Rattle.wire.specs.RoundTrips.{call_for};
 
 use crate::kind::Kind;
 

@@ -8,7 +8,7 @@ ghost use Rattle.wire.specs.Writes.{Writes};
 
 use crate::fault::WriteFault;
 use crate::kind::Kind;
-use crate::message::{Message, HEAD, VERSION};
+use crate::message::{HEAD, Message, VERSION};
 
 // Lays the head and the fields of a message of the kind at the front of the space and tells the count of their bytes; a
 // space that is too short is left as it was.
@@ -58,8 +58,8 @@ pub fn write(message: &Message, space: &mut [u8]) -> Result<usize, WriteFault>
             let [b0, b1, b2, b3] = opening.to_be_bytes();
             let [e0, e1, e2, e3] = closing.to_be_bytes();
             let fields = [
-                quote, rule, s0, s1, s2, s3, s4, s5, s6, s7, o0, o1, o2, o3, m0, m1,
-                m2, m3, p0, p1, p2, p3, least, b0, b1, b2, b3, e0, e1, e2, e3,
+                quote, rule, s0, s1, s2, s3, s4, s5, s6, s7, o0, o1, o2, o3, m0, m1, m2, m3, p0,
+                p1, p2, p3, least, b0, b1, b2, b3, e0, e1, e2, e3,
             ];
             put(Kind::Notice, &fields, space)
         }
@@ -82,8 +82,8 @@ pub fn write(message: &Message, space: &mut [u8]) -> Result<usize, WriteFault>
             let [q0, q1, q2, q3] = quote.to_be_bytes();
             let [l0, l1, l2, l3] = lots.to_be_bytes();
             let fields = [
-                s0, s1, s2, s3, s4, s5, s6, s7, h0, h1, h2, h3, t0, t1, t2, t3, q0,
-                q1, q2, q3, l0, l1, l2, l3,
+                s0, s1, s2, s3, s4, s5, s6, s7, h0, h1, h2, h3, t0, t1, t2, t3, q0, q1, q2, q3, l0,
+                l1, l2, l3,
             ];
             put(Kind::Entry, &fields, space)
         }
@@ -100,8 +100,7 @@ pub fn write(message: &Message, space: &mut [u8]) -> Result<usize, WriteFault>
             let [q0, q1, q2, q3] = quote.to_be_bytes();
             let [l0, l1, l2, l3] = lots.to_be_bytes();
             let fields = [
-                n0, n1, n2, n3, h0, h1, h2, h3, t0, t1, t2, t3, q0, q1, q2, q3, l0,
-                l1, l2, l3,
+                n0, n1, n2, n3, h0, h1, h2, h3, t0, t1, t2, t3, q0, q1, q2, q3, l0, l1, l2, l3,
             ];
             put(Kind::Change, &fields, space)
         }
@@ -116,11 +115,7 @@ pub fn write(message: &Message, space: &mut [u8]) -> Result<usize, WriteFault>
             let fields = [n0, n1, n2, n3, h0, h1, h2, h3, t0, t1, t2, t3];
             put(Kind::Withdrawal, &fields, space)
         }
-        Message::Close { second } => {
-            put(Kind::Close, &second.to_be_bytes(), space)
-        }
-        Message::Limit { quote } => {
-            put(Kind::Limit, &quote.to_be_bytes(), space)
-        }
+        Message::Close { second } => { put(Kind::Close, &second.to_be_bytes(), space) }
+        Message::Limit { quote } => { put(Kind::Limit, &quote.to_be_bytes(), space) }
     }
 }
