@@ -115,7 +115,7 @@ pub fn write(message: &Message, space: &mut [u8]) -> Result<usize, WriteFault>
             let fields = [n0, n1, n2, n3, h0, h1, h2, h3, t0, t1, t2, t3];
             put(Kind::Withdrawal, &fields, space)
         }
-        Message::Close { second } => { put(Kind::Close, &second.to_be_bytes(), space) }
-        Message::Limit { quote } => { put(Kind::Limit, &quote.to_be_bytes(), space) }
+        Message::Close { second } => put(Kind::Close, &second.to_be_bytes(), space),
+        Message::Limit { quote } => put(Kind::Limit, &quote.to_be_bytes(), space),
     }
 }
