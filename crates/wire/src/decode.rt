@@ -6,7 +6,7 @@ ghost use Rattle.wire.specs.Reading.{notice_at_front, entry_at_front, change_at_
 
 use crate::kind::Kind;
 use crate::message::Message;
-use crate::number::{i32_at, u32_at};
+use crate::number::four_bytes;
 
 // The notice whose bytes stand at the front of `b`.
 fn notice(b: &[u8]) -> Message
@@ -24,12 +24,12 @@ fn notice(b: &[u8]) -> Message
         s5: b[11],
         s6: b[12],
         s7: b[13],
-        offer: u32_at(b, 14),
-        minimum: u32_at(b, 18),
-        placement: u32_at(b, 22),
+        offer: u32::from_be_bytes(four_bytes(b, 14)),
+        minimum: u32::from_be_bytes(four_bytes(b, 18)),
+        placement: u32::from_be_bytes(four_bytes(b, 22)),
         least: b[26],
-        opening: u32_at(b, 27),
-        closing: u32_at(b, 31),
+        opening: u32::from_be_bytes(four_bytes(b, 27)),
+        closing: u32::from_be_bytes(four_bytes(b, 31)),
     }
 }
 
@@ -47,10 +47,10 @@ fn entry(b: &[u8]) -> Message
         s5: b[9],
         s6: b[10],
         s7: b[11],
-        house: u32_at(b, 12),
-        second: u32_at(b, 16),
-        quote: i32_at(b, 20),
-        lots: u32_at(b, 24),
+        house: u32::from_be_bytes(four_bytes(b, 12)),
+        second: u32::from_be_bytes(four_bytes(b, 16)),
+        quote: i32::from_be_bytes(four_bytes(b, 20)),
+        lots: u32::from_be_bytes(four_bytes(b, 24)),
     }
 }
 
@@ -60,11 +60,11 @@ fn change(b: &[u8]) -> Message
     ensures { result ≡ change_at_front b.now }
 {
     Message::Change {
-        number: u32_at(b, 4),
-        house: u32_at(b, 8),
-        second: u32_at(b, 12),
-        quote: i32_at(b, 16),
-        lots: u32_at(b, 20),
+        number: u32::from_be_bytes(four_bytes(b, 4)),
+        house: u32::from_be_bytes(four_bytes(b, 8)),
+        second: u32::from_be_bytes(four_bytes(b, 12)),
+        quote: i32::from_be_bytes(four_bytes(b, 16)),
+        lots: u32::from_be_bytes(four_bytes(b, 20)),
     }
 }
 
@@ -74,9 +74,9 @@ fn withdrawal(b: &[u8]) -> Message
     ensures { result ≡ withdrawal_at_front b.now }
 {
     Message::Withdrawal {
-        number: u32_at(b, 4),
-        house: u32_at(b, 8),
-        second: u32_at(b, 12),
+        number: u32::from_be_bytes(four_bytes(b, 4)),
+        house: u32::from_be_bytes(four_bytes(b, 8)),
+        second: u32::from_be_bytes(four_bytes(b, 12)),
     }
 }
 
@@ -92,10 +92,10 @@ pub(crate) fn decode(b: &[u8], kind: Kind) -> Message
         Kind::Change => change(b),
         Kind::Withdrawal => withdrawal(b),
         Kind::Close => Message::Close {
-            second: u32_at(b, 4),
+            second: u32::from_be_bytes(four_bytes(b, 4)),
         },
         Kind::Limit => Message::Limit {
-            quote: i32_at(b, 4),
+            quote: i32::from_be_bytes(four_bytes(b, 4)),
         },
     }
 }

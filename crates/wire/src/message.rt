@@ -1,16 +1,17 @@
-// A message, by kind. A series code stands in its case as eight single bytes.
+// A message, by kind.
 ghost use Rattle.std.specs.Prelude.{◌≡◌, length};
 ghost use Rattle.wire.specs.Kinds.{number_of};
 ghost use Rattle.wire.specs.Messages.{kind_of, encode};
 
 use crate::kind::Kind;
 
-// How many bytes stand before the fields: two of the length, the version and the kind.
+// How many bytes stand before the fields: the two of the length, the version and the kind.
 pub(crate) const HEAD: usize = 4;
 
 // The version, which stands in the third byte.
 pub(crate) const VERSION: u8 = 1;
 
+// A series code stands in its case as eight single bytes, which is a rule of the project.
 #[derive(Clone, Copy)]
 pub enum Message {
     // Kind 0: what is offered, under which rules and when.
