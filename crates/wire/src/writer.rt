@@ -1,4 +1,5 @@
-// The writer: a message's bytes at the front of a lent space. (Lent, with the count told, since the project takes no memory of its own.)
+// The writer: a message's bytes at the front of a lent space. (The space is lent and the count told, since the project
+// takes no memory of its own.)
 ghost use Rattle.std.specs.Prelude.{◌+◌, ◌≤◌, ◌∷◌, ◌++◌, length};
 ghost use Rattle.wire.specs.Kinds.{number_of};
 ghost use Rattle.wire.specs.Messages.{encode};
