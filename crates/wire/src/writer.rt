@@ -1,6 +1,6 @@
 // The writer: a message's bytes at the front of a lent space. (The space is lent and the count told, since the project
 // takes no memory of its own.)
-ghost use Rattle.std.specs.Prelude.{◌+◌, ◌≤◌, ◌∷◌, ◌++◌, length};
+ghost use Rattle.std.specs.Prelude.{◌+◌, ◌^◌, ◌<◌, ◌∷◌, ◌++◌, length};
 ghost use Rattle.wire.specs.Kinds.{number_of};
 ghost use Rattle.wire.specs.Messages.{encode};
 ghost use Rattle.wire.specs.Numbers.{two};
@@ -14,7 +14,7 @@ use crate::message::{HEAD, Message, VERSION};
 // Lays the head and the fields of a message of the kind at the front of the space and tells the count of their bytes; a
 // space that is too short is left as it was.
 fn put(kind: Kind, fields: &[u8], space: &mut [u8]) -> Result<usize, WriteFault>
-    requires { length fields.now ≤ 31 }
+    requires { 2 + length fields.now < 2 ^ 16 }
     ensures { Writes (two (2 + length fields.now) ++ (1 ∷ number_of kind ∷ fields.now)) space.old space.new result }
 {
     let count = HEAD + fields.len();
