@@ -1,17 +1,16 @@
 -- A message that is written and read is the same message.
-use Rattle.std.proofs.Common.{◌≡◌, ℕ, ◌+◌, ◌*◌, ◌/◌, ◌%◌, ◌^◌, ◌<◌, ◌≤◌, true, List, ◌++◌, length, get_or, ℤ, pos, negsuc, Some, Ok, Option, Result, sym, refl, ap, ◌∙◌, subst, arith, w32, SFits, to_z, of_z}
-use native.Mathlib.Nat.{div-div-eq-div-mul}
+use Rattle.std.proofs.Common.{◌≡◌, ℕ, ◌+◌, ◌^◌, ◌<◌, ◌≤◌, true, List, ◌++◌, length, get_or, ℤ, Some, Ok, Option, Result, refl, ap, ◌∙◌, arith, w32, SFits, to_z, of_z}
+use Rattle.std.proofs.Math.Facts.{Fits-of_z}
 use Rattle.std.proofs.lemmas.Int.{to_z-of_z}
+use Rattle.std.proofs.lemmas.Nat.{from_be_bytes-to_be_bytes_4}
 use Rattle.std.proofs.lemmas.Bool.Decides.{nat_tests}
 use Rattle.wire.specs.Grounds.{taken, length_of}
 use Rattle.wire.specs.Messages.{kind_of, encode}
 use Rattle.wire.specs.Numbers.{two_at, four_at, signed_at, four, signed}
 use Rattle.wire.specs.Reading.{decoded, reading}
 use Rattle.wire.specs.RoundTrips.{ComesBack}
-use Rattle.wire.specs.Writes.{Writes}
 use Rattle.wire.specs.declared.call.Call.{Call}
 use Rattle.wire.specs.declared.fault.ReadFault.{ReadFault}
-use Rattle.wire.specs.declared.fault.WriteFault.{WriteFault}
 use Rattle.wire.specs.declared.message.Message.{Message}
 use Rattle.wire.specs.declared.message.Message.TheVariants.{Notice, Entry, Change, Withdrawal, Close, Limit}
 
@@ -24,46 +23,19 @@ Fitting (Withdrawal n h t) = (n < 2 ^ 32) × (h < 2 ^ 32) × (t < 2 ^ 32)
 Fitting (Close t) = t < 2 ^ 32
 Fitting (Limit q) = SFits w32 q
 
-split : (m : ℕ) → m ≡ 256 * (m / 256) + m % 256
-split m = omega arith
-
-join : (n a b c r0 r1 r2 r3 : ℕ) → n ≡ 256 * a + r0 → a ≡ 256 * b + r1 → b ≡ 256 * c + r2 → r3 ≡ c → r3 * 16777216 + r2 * 65536 + r1 * 256 + r0 ≡ n
-join n a b c r0 r1 r2 r3 e0 e1 e2 e3 = omega arith
-
 -- a number out of its own bytes
-pub four_back : (n : ℕ) → n < 2 ^ 32 → four_at (four n) 0 ≡ n
-four_back n h =
-    let e1 : n / 256 / 256 ≡ n / 65536 = div-div-eq-div-mul n 256 256 in
-    let e2 : n / 65536 / 256 ≡ n / 16777216 = div-div-eq-div-mul n 65536 256 in
-    let s1 = split (n / 256) in
-    let s2 = split (n / 65536) in
-    let top : n / 16777216 % 256 ≡ n / 16777216 = omega arith in
-    join n (n / 256) (n / 65536) (n / 16777216) (n % 256) (n / 256 % 256) (n / 65536 % 256) (n / 16777216 % 256)
-    (split n) (rw e1 at s1) (rw e2 at s2) top
-
-bits_small : (z : ℤ) → SFits w32 z → of_z w32 z < 2 ^ 32
-bits_small (pos n) f = omega (arith, f.sfits)
-bits_small (negsuc n) f = omega (arith, f.sfits)
+four_back : (n : ℕ) → n < 2 ^ 32 → four_at (four n) 0 ≡ n
+four_back n h = omega (arith, from_be_bytes-to_be_bytes_4 n h)
 
 signed_back : (z : ℤ) → SFits w32 z → signed_at (signed z) 0 ≡ z
-signed_back z f = ap (to_z w32) (four_back (of_z w32 z) (bits_small z f)) ∙ to_z-of_z w32 z f
+signed_back z f = ap (to_z w32) (four_back (of_z w32 z) (omega (arith, (Fits-of_z f).fits))) ∙ to_z-of_z w32 z f
 
 -- the head of a message's bytes says how long they are
 long : (m : Message) (more : List ℕ) → 2 + length_of (kind_of m) ≤ length (encode m ++ more)
-long (Notice c r s0 s1 s2 s3 s4 s5 s6 s7 o m p n a z) more = omega arith
-long (Entry s0 s1 s2 s3 s4 s5 s6 s7 h t q l) more = omega arith
-long (Change n h t q l) more = omega arith
-long (Withdrawal n h t) more = omega arith
-long (Close t) more = omega arith
-long (Limit q) more = omega arith
+long m more = grind arith
 
 says : (m : Message) (more : List ℕ) → two_at (encode m ++ more) 0 ≡ length_of (kind_of m)
-says (Notice c r s0 s1 s2 s3 s4 s5 s6 s7 o m p n a z) more = refl
-says (Entry s0 s1 s2 s3 s4 s5 s6 s7 h t q l) more = refl
-says (Change n h t q l) more = refl
-says (Withdrawal n h t) more = refl
-says (Close t) more = refl
-says (Limit q) more = refl
+says m more = grind arith
 
 -- so there is no ground against it
 accepts : (call : Call) (b : List ℕ) → taken call (get_or b 3 0) ≡ true → 2 + length_of (get_or b 3 0) ≤ length b → two_at b 0 ≡ length_of (get_or b 3 0) → get_or b 2 0 ≡ 1 → reading call b ≡ Ok (Some (decoded (get_or b 3 0) b))
@@ -74,50 +46,9 @@ accepts call b takes long says version =
 -- and its fields are those that were written
 fields_back : (m : Message) (more : List ℕ) → Fitting m → decoded (kind_of m) (encode m ++ more) ≡ m
 unfolding decoded
-fields_back (Notice c r s0 s1 s2 s3 s4 s5 s6 s7 o m p n a z) more f =
-    let e0 = four_back o f.0 in
-    let e1 = four_back m f.1 in
-    let e2 = four_back p f.2 in
-    let e3 = four_back a f.3 in
-    let e4 = four_back z f.4 in
-    cc
-fields_back (Entry s0 s1 s2 s3 s4 s5 s6 s7 h t q l) more f =
-    let e0 = four_back h f.0 in
-    let e1 = four_back t f.1 in
-    let e2 = signed_back q f.2 in
-    let e3 = four_back l f.3 in
-    cc
-fields_back (Change n h t q l) more f =
-    let e0 = four_back n f.0 in
-    let e1 = four_back h f.1 in
-    let e2 = four_back t f.2 in
-    let e3 = signed_back q f.3 in
-    let e4 = four_back l f.4 in
-    cc
-fields_back (Withdrawal n h t) more f =
-    let e0 = four_back n f.0 in
-    let e1 = four_back h f.1 in
-    let e2 = four_back t f.2 in
-    cc
-fields_back (Close t) more f = ap Close (four_back t f)
-fields_back (Limit q) more f = ap Limit (signed_back q f)
+fields_back m more f = grind (arith, four_back, signed_back)
 
 pub comes_back : (m : Message) → Fitting m → ComesBack m
 comes_back m f call more takes =
     let given : Message → Result (Option Message) ReadFault = λ x. Ok (Some x) in
     accepts call (encode m ++ more) takes (long m more) (says m more) refl ∙ ap given (fields_back m more f)
-
--- what is written of the bytes of a message is written of the message, and comes back
-pub record Sent (m : Message) (before after : List ℕ) (r : Result ℕ WriteFault) : Type 0 where
-  pub written : Writes (encode m) before after r
-  pub back : ComesBack m
-
-pub sent : (m n : Message) (text before after : List ℕ) (r : Result ℕ WriteFault) → m ≡ n → Fitting n → text ≡ encode n → Writes text before after r → Sent m before after r
-sent m n text before after r e f t w =
-    let P : Message → Type 0 = λ x. Sent x before after r in
-    let Q : List ℕ → Type 0 = λ x. Writes x before after r in
-    subst P (sym e) (record { written = subst Q t w; back = comes_back n f })
-
--- a signed field passes through its bits, which changes nothing
-pub through_bits : (f : ℤ → Message) (q : ℤ) (text : List ℕ) → SFits w32 q → text ≡ encode (f (to_z w32 (of_z w32 q))) → text ≡ encode (f q)
-through_bits f q text fits e = e ∙ ap (λ z. encode (f z)) (to_z-of_z w32 q fits)

@@ -1,5 +1,3 @@
-pub mod ByKind
-pub mod Heads
 pub mod Again
 pub mod ComesBack
 pub mod Returns

@@ -1,5 +1,5 @@
 -- A message that is written into a space is read from there.
-use Rattle.std.proofs.Common.{◌≡◌, ℕ, true, List, ◌++◌, length, drop, Some, Ok, refl, ap, ◌∙◌, arith}
+use Rattle.std.proofs.Common.{◌≡◌, ℕ, true, List, ◌++◌, length, drop, Some, Ok, ap, ◌∙◌, arith}
 use Rattle.wire.specs.Grounds.{taken}
 use Rattle.wire.specs.Messages.{kind_of, encode}
 use Rattle.wire.specs.Reading.{reading}
@@ -9,15 +9,9 @@ use Rattle.wire.specs.Writes.{Writes}
 use Rattle.wire.specs.declared.back.Back.{Back}
 use Rattle.wire.specs.declared.fault.WriteFault.{WriteFault}
 use Rattle.wire.specs.declared.message.Message.{Message}
-use Rattle.wire.specs.declared.message.Message.TheVariants.{Notice, Entry, Change, Withdrawal, Close, Limit}
 
 takes : (m : Message) → taken (call_for m) (kind_of m) ≡ true
-takes (Notice c r s0 s1 s2 s3 s4 s5 s6 s7 o m p n a z) = refl
-takes (Entry s0 s1 s2 s3 s4 s5 s6 s7 h t q l) = refl
-takes (Change n h t q l) = refl
-takes (Withdrawal n h t) = refl
-takes (Close t) = refl
-takes (Limit q) = refl
+takes m = grind arith
 
 pub returned : (m : Message) (before after : List ℕ) (n : ℕ) (b : Back) → Writes {E = WriteFault} (encode m) before after (Ok n) → ComesBack m → b.read ≡ reading (call_for m) after → b.place ≡ bytes_passed b.read → Returned m before after b
 returned m before after n b written back read place =

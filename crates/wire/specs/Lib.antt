@@ -1,6 +1,7 @@
 pub mod Numbers
 pub mod Messages
 pub mod Faults
+pub mod Kinds
 pub mod Grounds
 pub mod Reading
 pub mod RoundTrips

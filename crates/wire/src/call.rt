@@ -1,5 +1,5 @@
 // The two calls that read a message.
-#[derive(Clone, Copy)]
+#[derive(Clone, Copy, PartialEq, Eq, Debug)]
 pub enum Call {
     // Takes the notice, kind 0.
     Opening,

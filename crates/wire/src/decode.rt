@@ -1,10 +1,12 @@
 // The fields of a message out of its bytes.
 ghost use Rattle.std.specs.Prelude.{◌≡◌, ◌+◌, ◌≤◌, length};
 ghost use Rattle.wire.specs.Grounds.{length_of};
+ghost use Rattle.wire.specs.Kinds.{number_of};
 ghost use Rattle.wire.specs.Reading.{notice_at_front, entry_at_front, change_at_front, withdrawal_at_front, decoded};
 
+use crate::kind::Kind;
 use crate::message::Message;
-use crate::number::{i32_at, u32_at};
+use crate::number::four_bytes;
 
 // The notice whose bytes stand at the front of `b`.
 fn notice(b: &[u8]) -> Message
@@ -22,12 +24,12 @@ fn notice(b: &[u8]) -> Message
         s5: b[11],
         s6: b[12],
         s7: b[13],
-        offer: u32_at(b, 14),
-        minimum: u32_at(b, 18),
-        placement: u32_at(b, 22),
+        offer: u32::from_be_bytes(four_bytes(b, 14)),
+        minimum: u32::from_be_bytes(four_bytes(b, 18)),
+        placement: u32::from_be_bytes(four_bytes(b, 22)),
         least: b[26],
-        opening: u32_at(b, 27),
-        closing: u32_at(b, 31),
+        opening: u32::from_be_bytes(four_bytes(b, 27)),
+        closing: u32::from_be_bytes(four_bytes(b, 31)),
     }
 }
 
@@ -45,10 +47,10 @@ fn entry(b: &[u8]) -> Message
         s5: b[9],
         s6: b[10],
         s7: b[11],
-        house: u32_at(b, 12),
-        second: u32_at(b, 16),
-        quote: i32_at(b, 20),
-        lots: u32_at(b, 24),
+        house: u32::from_be_bytes(four_bytes(b, 12)),
+        second: u32::from_be_bytes(four_bytes(b, 16)),
+        quote: i32::from_be_bytes(four_bytes(b, 20)),
+        lots: u32::from_be_bytes(four_bytes(b, 24)),
     }
 }
 
@@ -58,11 +60,11 @@ fn change(b: &[u8]) -> Message
     ensures { result ≡ change_at_front b.now }
 {
     Message::Change {
-        number: u32_at(b, 4),
-        house: u32_at(b, 8),
-        second: u32_at(b, 12),
-        quote: i32_at(b, 16),
-        lots: u32_at(b, 20),
+        number: u32::from_be_bytes(four_bytes(b, 4)),
+        house: u32::from_be_bytes(four_bytes(b, 8)),
+        second: u32::from_be_bytes(four_bytes(b, 12)),
+        quote: i32::from_be_bytes(four_bytes(b, 16)),
+        lots: u32::from_be_bytes(four_bytes(b, 20)),
     }
 }
 
@@ -72,27 +74,28 @@ fn withdrawal(b: &[u8]) -> Message
     ensures { result ≡ withdrawal_at_front b.now }
 {
     Message::Withdrawal {
-        number: u32_at(b, 4),
-        house: u32_at(b, 8),
-        second: u32_at(b, 12),
+        number: u32::from_be_bytes(four_bytes(b, 4)),
+        house: u32::from_be_bytes(four_bytes(b, 8)),
+        second: u32::from_be_bytes(four_bytes(b, 12)),
     }
 }
 
 // The message of a kind whose bytes stand at the front of `b`.
-pub(crate) fn decode(b: &[u8], kind: u8) -> Message
-    requires { 2 + length_of kind ≤ length b.now }
-    ensures { result ≡ decoded kind b.now }
+#[tactic(auto, unfolding(crate::specs::Reading::decoded))]
+pub(crate) fn decode(b: &[u8], kind: Kind) -> Message
+    requires { 2 + length_of (number_of kind) ≤ length b.now }
+    ensures { result ≡ decoded (number_of kind) b.now }
 {
     match kind {
-        0 => notice(b),
-        1 => entry(b),
-        2 => change(b),
-        3 => withdrawal(b),
-        4 => Message::Close {
-            second: u32_at(b, 4),
+        Kind::Notice => notice(b),
+        Kind::Entry => entry(b),
+        Kind::Change => change(b),
+        Kind::Withdrawal => withdrawal(b),
+        Kind::Close => Message::Close {
+            second: u32::from_be_bytes(four_bytes(b, 4)),
         },
-        _ => Message::Limit {
-            quote: i32_at(b, 4),
+        Kind::Limit => Message::Limit {
+            quote: i32::from_be_bytes(four_bytes(b, 4)),
         },
     }
 }

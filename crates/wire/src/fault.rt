@@ -3,18 +3,18 @@ ghost use Rattle.std.specs.Prelude.{◌≡◌};
 ghost use Rattle.wire.specs.Faults.{read_number, read_offset, write_number};
 
 // Why the reader refuses.
-#[derive(Clone, Copy)]
+#[derive(Clone, Copy, PartialEq, Eq, Debug)]
 pub enum ReadFault {
     // One byte is left, or fewer bytes than the length says.
-    Truncated,
+    Truncated = 1,
     // The length is below 2, so that it leaves out the version or the kind.
-    LengthBelowTwo,
+    LengthBelowTwo = 2,
     // The version is not 1.
-    WrongVersion,
+    WrongVersion = 3,
     // The call does not take the kind.
-    WrongKind,
+    WrongKind = 4,
     // The length is not that of the kind.
-    WrongLength,
+    WrongLength = 5,
 }
 
 impl ReadFault {
@@ -22,13 +22,7 @@ impl ReadFault {
     pub fn number(self) -> u8
         ensures { result ≡ read_number self }
     {
-        match self {
-            ReadFault::Truncated => 1,
-            ReadFault::LengthBelowTwo => 2,
-            ReadFault::WrongVersion => 3,
-            ReadFault::WrongKind => 4,
-            ReadFault::WrongLength => 5,
-        }
+        self as u8
     }
 
     // How far behind the message's first byte the byte is that the refusal is about.
@@ -44,10 +38,10 @@ impl ReadFault {
 }
 
 // Why the writer refuses.
-#[derive(Clone, Copy)]
+#[derive(Clone, Copy, PartialEq, Eq, Debug)]
 pub enum WriteFault {
     // The space is shorter than the message.
-    SpaceTooShort,
+    SpaceTooShort = 19,
 }
 
 impl WriteFault {
@@ -55,8 +49,6 @@ impl WriteFault {
     pub fn number(self) -> u8
         ensures { result ≡ write_number self }
     {
-        match self {
-            WriteFault::SpaceTooShort => 19,
-        }
+        self as u8
     }
 }

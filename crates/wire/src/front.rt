@@ -1,6 +1,5 @@
 // The message at the front of some bytes.
 ghost use Rattle.std.specs.Prelude.{◌≡◌, ◌≤◌, length};
-ghost use Rattle.wire.specs.Messages.{encode};
 ghost use Rattle.wire.specs.Reads.{Replies, bytes_passed};
 
 use crate::call::Call;
@@ -14,23 +13,9 @@ pub(crate) fn front(rest: &[u8], call: Call) -> Result<Option<Message>, ReadFaul
     ensures reply { Replies call rest.now result }
     ensures fits { bytes_passed result ≤ length rest.now }
 {
-    if rest.len() == 0 {
+    if rest.is_empty() {
         return Ok(None);
     }
-    judge(rest, call)?;
-    Ok(Some(decode(rest, rest[3])))
-}
-
-// How many bytes a message has.
-pub(crate) fn width(message: &Message) -> usize
-    ensures { result ≡ length (encode message.now) }
-{
-    match message {
-        Message::Notice { .. } => 35,
-        Message::Entry { .. } => 28,
-        Message::Change { .. } => 24,
-        Message::Withdrawal { .. } => 16,
-        Message::Close { .. } => 8,
-        Message::Limit { .. } => 8,
-    }
+    let kind = judge(rest, call)?;
+    Ok(Some(decode(rest, kind)))
 }

@@ -1,56 +1,38 @@
 // Whether a call accepts the message at the front of some bytes.
-ghost use Rattle.std.specs.Prelude.{◌≡◌};
-ghost use Rattle.wire.specs.Grounds.{taken, length_of, grounds, verdict};
+ghost use Rattle.std.specs.Prelude.{◌≡◌, IfOk, IfErr, slice_index};
+ghost use Rattle.wire.specs.Grounds.{grounds, verdict};
+ghost use Rattle.wire.specs.Kinds.{number_of};
 
 use crate::call::Call;
 use crate::fault::ReadFault;
-use crate::number::u16_at;
+use crate::kind::Kind;
+use crate::message::VERSION;
 
-// Whether a call takes a kind.
-fn takes(call: Call, kind: u8) -> bool
-    ensures { result ≡ taken call kind }
+// The kind of the message at the front of `rest`, or the first ground there is against it.
+pub(crate) fn judge(rest: &[u8], call: Call) -> Result<Kind, ReadFault>
+    ensures accepted { IfOk result (λ k. verdict (grounds call rest.now) ≡ Ok tt) }
+    ensures kind { IfOk result (λ k. number_of k ≡ slice_index rest.now 3) }
+    ensures refused { IfErr result (λ f. verdict (grounds call rest.now) ≡ Err f) }
 {
-    match call {
-        Call::Opening => kind == 0,
-        Call::Session => 1 <= kind && kind <= 5,
-    }
-}
-
-// The length of a message of a kind.
-fn length_of(kind: u8) -> usize
-    ensures { result ≡ length_of kind }
-{
-    match kind {
-        0 => 33,
-        1 => 26,
-        2 => 22,
-        3 => 14,
-        _ => 6,
-    }
-}
-
-// Refuses on the first ground there is against the message at the front of `rest`.
-pub(crate) fn judge(rest: &[u8], call: Call) -> Result<(), ReadFault>
-    ensures { result ≡ verdict (grounds call rest.now) }
-{
-    if rest.len() < 2 {
+    let [high, low, body @ ..] = rest else {
         return Err(ReadFault::Truncated);
-    }
-    let length = u16_at(rest, 0) as usize;
-    if rest.len() < 2 + length {
+    };
+    let length = u16::from_be_bytes([*high, *low]) as usize;
+    if body.len() < length {
         return Err(ReadFault::Truncated);
     }
     if length < 2 {
         return Err(ReadFault::LengthBelowTwo);
     }
-    if rest[2] != 1 {
+    if rest[2] != VERSION {
         return Err(ReadFault::WrongVersion);
     }
-    if !takes(call, rest[3]) {
+    let kind = Kind::try_from(rest[3])?;
+    if kind.call() != call {
         return Err(ReadFault::WrongKind);
     }
-    if length != length_of(rest[3]) {
+    if length != kind.length() {
         return Err(ReadFault::WrongLength);
     }
-    Ok(())
+    Ok(kind)
 }

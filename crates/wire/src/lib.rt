@@ -4,10 +4,10 @@
 pub mod back;
 pub mod call;
 mod decode;
-mod encode;
 pub mod fault;
 mod front;
 mod judge;
+mod kind;
 pub mod message;
 mod number;
 pub mod reader;

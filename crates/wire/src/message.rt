@@ -1,4 +1,17 @@
-// A message, by kind. A series code stands in its case as eight single bytes.
+// A message, by kind.
+ghost use Rattle.std.specs.Prelude.{◌≡◌, length};
+ghost use Rattle.wire.specs.Kinds.{number_of};
+ghost use Rattle.wire.specs.Messages.{kind_of, encode};
+
+use crate::kind::Kind;
+
+// How many bytes stand before the fields: the two of the length, the version and the kind.
+pub(crate) const HEAD: usize = 4;
+
+// The version, which stands in the third byte.
+pub(crate) const VERSION: u8 = 1;
+
+// A series code stands in its case as eight single bytes, which is a rule of the project.
 #[derive(Clone, Copy)]
 pub enum Message {
     // Kind 0: what is offered, under which rules and when.
@@ -58,4 +71,27 @@ pub enum Message {
     Limit {
         quote: i32,
     },
+}
+
+impl Message {
+    // The kind of the message, which tells its width and the call that takes it.
+    pub(crate) fn kind(&self) -> Kind
+        ensures { number_of result ≡ kind_of self.now }
+    {
+        match self {
+            Message::Notice { .. } => Kind::Notice,
+            Message::Entry { .. } => Kind::Entry,
+            Message::Change { .. } => Kind::Change,
+            Message::Withdrawal { .. } => Kind::Withdrawal,
+            Message::Close { .. } => Kind::Close,
+            Message::Limit { .. } => Kind::Limit,
+        }
+    }
+
+    // How many bytes the message has: the two of the length, and those that the length counts.
+    pub(crate) fn width(&self) -> usize
+        ensures { result ≡ length (encode self.now) }
+    {
+        2 + self.kind().length()
+    }
 }

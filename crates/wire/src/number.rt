@@ -1,27 +1,10 @@
-// The numbers of a message, the highest byte first.
-ghost use Rattle.std.specs.Prelude.{◌≡◌, ◌+◌, ◌≤◌, length};
-ghost use Rattle.wire.specs.Numbers.{two_at, four_at, signed_at};
+// The bytes of the numbers in a message.
+ghost use Rattle.std.specs.Prelude.{◌≡◌, ◌+◌, ◌≤◌, List, [], ◌∷◌, length, slice_index};
 
-// The number of two bytes at `at`.
-pub(crate) fn u16_at(bytes: &[u8], at: usize) -> u16
-    requires { at + 2 ≤ length bytes.now }
-    ensures { result ≡ two_at bytes.now at }
-{
-    u16::from_be_bytes([bytes[at], bytes[at + 1]])
-}
-
-// The number of four bytes at `at`.
-pub(crate) fn u32_at(bytes: &[u8], at: usize) -> u32
+// The four bytes at `at`.
+pub(crate) fn four_bytes(bytes: &[u8], at: usize) -> [u8; 4]
     requires { at + 4 ≤ length bytes.now }
-    ensures { result ≡ four_at bytes.now at }
+    ensures { result ≡ slice_index bytes.now at ∷ slice_index bytes.now (at + 1) ∷ slice_index bytes.now (at + 2) ∷ slice_index bytes.now (at + 3) ∷ [] }
 {
-    u32::from_be_bytes([bytes[at], bytes[at + 1], bytes[at + 2], bytes[at + 3]])
-}
-
-// The signed number of four bytes at `at`, in two's complement.
-pub(crate) fn i32_at(bytes: &[u8], at: usize) -> i32
-    requires { at + 4 ≤ length bytes.now }
-    ensures { result ≡ signed_at bytes.now at }
-{
-    i32::from_be_bytes([bytes[at], bytes[at + 1], bytes[at + 2], bytes[at + 3]])
+    *bytes[at..].first_chunk().unwrap()
 }

@@ -3,6 +3,7 @@ ghost use Rattle.std.specs.Prelude.{◌≡◌, ◌≤◌, length};
 
 mod calls;
 
+// (Borrowed input with its place is a rule of the project: no memory is taken, and a refusal tells the place.)
 #[derive(Drop)]
 pub struct Reader<'a> {
     bytes: &'a [u8],

@@ -16,14 +16,7 @@ fn read_like(like: &Message, bytes: &[u8]) -> Back
     ensures place { result.place ≡ bytes_passed result.read }
 {
     let mut reader = Reader::new(bytes);
-    if let Message::Notice { .. } = like {
-        let read = reader.notice();
-        return Back {
-            read,
-            place: reader.place(),
-        };
-    }
-    let read = reader.event();
+    let read = reader.next(like.kind().call());
     Back {
         read,
         place: reader.place(),
@@ -31,6 +24,7 @@ fn read_like(like: &Message, bytes: &[u8]) -> Back
 }
 
 // Writes a message into the space and reads it back from there.
+#[tactic(auto, using(crate::proofs::Returns::returned))]
 pub fn there_and_back(message: &Message, space: &mut [u8]) -> Result<Back, WriteFault>
     ensures { Returns message.now space.old space.new result }
 {

@@ -1,4 +1,5 @@
 // The reader on bytes of every sort.
+use wire::call::Call;
 use wire::fault::ReadFault;
 use wire::message::Message;
 use wire::reader::Reader;
@@ -12,17 +13,10 @@ fn outcome(answer: Result<Option<Message>, ReadFault>) -> u8 {
     }
 }
 
-// What the session call makes of the bytes, with the reader's place and count afterwards.
-fn event(bytes: &[u8]) -> (u8, usize, usize) {
+// What a call makes of the bytes, with the reader's place and count afterwards.
+fn read(bytes: &[u8], call: Call) -> (u8, usize, usize) {
     let mut reader = Reader::new(bytes);
-    let told = outcome(reader.event());
-    (told, reader.place(), reader.passed())
-}
-
-// What the notice call makes of the bytes, with the reader's place and count afterwards.
-fn notice(bytes: &[u8]) -> (u8, usize, usize) {
-    let mut reader = Reader::new(bytes);
-    let told = outcome(reader.notice());
+    let told = outcome(reader.next(call));
     (told, reader.place(), reader.passed())
 }
 
@@ -55,7 +49,7 @@ fn a_refused_event_leaves_place_and_count(rt: HostRuntime) {
         (b"\x00\x06\x01\x03\x00\x00\x00\x01", 5),
     ];
     for (bytes, number) in cases {
-        let (told, place, passed) = event(bytes);
+        let (told, place, passed) = read(bytes, Call::Session);
         assert!(rt; told == number && place == 0 && passed == 0);
     }
 }
@@ -69,8 +63,8 @@ fn of_several_grounds_the_smallest_number_wins(rt: HostRuntime) {
         (b"\x00\x03\x01\x09\x00", 4),
     ];
     for (bytes, number) in cases {
-        let (in_session, _, _) = event(bytes);
-        let (at_opening, _, _) = notice(bytes);
+        let (in_session, _, _) = read(bytes, Call::Session);
+        let (at_opening, _, _) = read(bytes, Call::Opening);
         assert!(rt; in_session == number && at_opening == number);
     }
 }
@@ -96,7 +90,7 @@ fn a_message_is_passed_whole_whatever_follows_it(rt: HostRuntime) {
         (b"\x00\x06\x01\x04\xff\xff\xff\xff\x00\x06\x01", 8),
     ];
     for (bytes, end) in cases {
-        let (told, place, passed) = event(bytes);
+        let (told, place, passed) = read(bytes, Call::Session);
         assert!(rt; told == 0 && place == end && passed == 1);
     }
 }
@@ -116,7 +110,7 @@ fn the_notice_call_takes_a_notice_only(rt: HostRuntime) {
         (b"\x00\x06\x01\xff\x00\x00\x00\x00", 4, 0),
     ];
     for (bytes, number, end) in cases {
-        let (told, place, _) = notice(bytes);
+        let (told, place, _) = read(bytes, Call::Opening);
         assert!(rt; told == number && place == end);
     }
 }

@@ -1,4 +1,5 @@
 // The writer, and the way back, for each kind of message.
+use wire::back::Back;
 use wire::message::Message;
 use wire::trip::there_and_back;
 use wire::writer::write;
@@ -6,13 +7,9 @@ use wire::writer::write;
 // Whether the message is written as the bytes, and the rest of the space left.
 fn is_written(message: &Message, bytes: &[u8]) -> bool {
     let mut space = [238u8; 40];
-    match write(message, &mut space) {
-        Ok(count) => count == bytes.len()
-            && count < 40
-            && &space[0..count] == bytes
-            && space[39] == 238,
-        Err(_) => false,
-    }
+    write(message, &mut space).is_ok_and(|count| {
+        count == bytes.len() && count < 40 && &space[..count] == bytes && space[39] == 238
+    })
 }
 
 // Whether a space of a length is too short for the message, and is then left.
@@ -21,22 +18,24 @@ fn is_refused(message: &Message, length: usize) -> bool {
     if length == 0 || 40 < length {
         return false;
     }
-    match write(message, &mut space[0..length]) {
-        Ok(_) => false,
-        Err(fault) => fault.number() == 19 && space[0] == 238 && space[length - 1] == 238,
-    }
+    write(message, &mut space[..length]).is_err_and(|fault| fault.number() == 19
+        && space[0] == 238
+        && space[length - 1] == 238)
 }
 
 // Whether what comes back of the message is written as the bytes too.
 fn comes_back(message: &Message, bytes: &[u8]) -> bool {
     let mut space = [238u8; 40];
-    match there_and_back(message, &mut space) {
-        Ok(back) => match back.read {
-            Ok(Some(read)) => back.place == bytes.len() && is_written(&read, bytes),
-            _ => false,
+    let Ok(
+        Back {
+            read: Ok(Some(read)),
+            place,
         },
-        Err(_) => false,
-    }
+    ) = there_and_back(message, &mut space)
+    else {
+        return false;
+    };
+    place == bytes.len() && is_written(&read, bytes)
 }
 
 #[test]

@@ -1,11 +1,12 @@
-// The two calls that read a message and pass it. At the end there is none; a refusal leaves the reader as it was.
+// The calls that read a message and pass it. At the end there is none; a refusal leaves the reader as it was.
+// (`notice` and `event` are `next` with its call in the name, for those who only ever want the one.)
 ghost use Rattle.std.specs.Prelude.{◌≡◌, ◌+◌, length};
 ghost use Rattle.wire.specs.Reads.{Reads, ahead};
 ghost use Rattle.wire.specs.declared.call.Call.TheVariants.{Opening, Session};
 
 use crate::call::Call;
 use crate::fault::ReadFault;
-use crate::front::{front, width};
+use crate::front::front;
 use crate::message::Message;
 use crate::reader::Reader;
 
@@ -24,6 +25,18 @@ impl<'a> Reader<'a> {
         self.next(Call::Session)
     }
 
+    // The message at the place, if the call takes it.
+    pub fn next(&mut self, call: Call) -> Result<Option<Message>, ReadFault>
+        ensures { Reads call self.old self.new result }
+    {
+        let Some(message) = front(self.rest(), call)? else {
+            return Ok(None);
+        };
+        self.place += message.width();
+        self.passed += 1;
+        Ok(Some(message))
+    }
+
     // The bytes behind the place.
     fn rest(&self) -> &'a [u8]
         ensures value { result.now ≡ ahead self.now }
@@ -31,17 +44,5 @@ impl<'a> Reader<'a> {
     {
         let bytes = self.bytes;
         &bytes[self.place..]
-    }
-
-    // The message at the place, if the call takes it.
-    fn next(&mut self, call: Call) -> Result<Option<Message>, ReadFault>
-        ensures { Reads call self.old self.new result }
-    {
-        let Some(message) = front(self.rest(), call)? else {
-            return Ok(None);
-        };
-        self.place += width(&message);
-        self.passed += 1;
-        Ok(Some(message))
     }
 }
