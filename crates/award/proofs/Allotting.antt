@@ -1,5 +1,6 @@
 -- Rows that were given their allotments so far, one row more.
 use Rattle.std.proofs.Common.{◌≡◌, ℕ, zero, suc, ◌+◌, ◌<◌, ◌≤◌, min, List, [], ◌∷◌, length, get_or, take, set, sym, refl, ap, ◌∙◌, add-one, arith}
+use Rattle.std.proofs.lemmas.List.{take_all}
 use Rattle.award.specs.declared.row.Row.{Row}
 use Rattle.award.specs.Rows.{with_lots, given_to}
 
@@ -36,3 +37,7 @@ module _ {Q : Type 0} where
   given_all (s ∷ rows) [] (suc i) h = refl
   given_all (s ∷ rows) (x ∷ lots) zero h = absurd (let z : ⊥ = omega arith in z)
   given_all (s ∷ rows) (x ∷ lots) (suc i) h = ap (λ rs. with_lots x s ∷ rs) (given_all rows lots i (omega arith))
+
+  -- past the end of the list nothing is given
+  pub given_past : (rows : List (Row Q)) (lots : List ℕ) (i : ℕ) → length lots ≤ i → given_to rows (take i lots) ≡ given_to rows (take (i + 1) lots)
+  given_past rows lots i h = ap (given_to rows) (take_all i lots h ∙ sym (take_all (i + 1) lots (omega arith)))

@@ -1,5 +1,6 @@
 -- What is still to be written into a table, one row more.
-use Rattle.std.proofs.Common.{◌≡◌, ℕ, suc, ◌+◌, ◌-◌, ◌<◌, ◌≤◌, Bool, true, false, cond, not, ◌&&◌, List, [], ◌∷◌, ◌++◌, map, length, get_or, take, drop, set, replicate, filter, sym, refl, ap, ◌∙◌, subst, arith}
+use Rattle.std.proofs.Common.{◌≡◌, ℕ, suc, ◌+◌, ◌-◌, ◌<◌, ◌≤◌, Bool, true, false, cond, not, ◌&&◌, List, [], ◌∷◌, ◌++◌, map, length, get_or, take, drop, set, replicate, filter, Some, None, Option, MatchOption, Iter, Bor, sym, refl, ap, ◌∙◌, subst, arith}
+use Rattle.std.specs.Option.{option_copied, unwrap_or}
 use Rattle.std.proofs.lemmas.List.{at_drop_more, at_drop_all, append-nil, length-take-le, take_at, drop_at, drop-drop}
 use Rattle.std.proofs.lemmas.Bool.{and_parts, both_ways}
 use Rattle.terms.specs.Sharing.{laid}
@@ -51,6 +52,20 @@ same_not false v x xs ys e = refl
 second_false : (s p : Bool) → false ≡ (s && p) → s ≡ true → p ≡ false
 second_false true p e k = sym e
 second_false false p e k = absurd (both_ways false refl k)
+
+-- one step of the iterator over the shares: the next share, or nothing past the last
+no_next : (xs : List ℕ) → length xs ≡ 0 → 0 ≡ next xs
+no_next [] h = refl
+no_next (x ∷ xs) h = absurd (let z : ⊥ = omega arith in z)
+
+no_later : (xs : List ℕ) → length xs ≡ 0 → xs ≡ later xs
+no_later [] h = refl
+no_later (x ∷ xs) h = absurd (let z : ⊥ = omega arith in z)
+
+pub share_taken : (s t : Iter ℕ) (o : Option (Bor ℕ)) → MatchOption o ((length s.rest.now ≡ 0) × (t ≡ s)) (λ x. s.rest.now ≡ x.now ∷ t.rest.now)
+    → (unwrap_or (option_copied o) 0 ≡ next s.rest.now) × (t.rest.now ≡ later s.rest.now)
+share_taken s t None h = (no_next s.rest.now h.0, ap (λ (i : Iter ℕ). i.rest.now) h.1 ∙ no_later s.rest.now h.0)
+share_taken s t (Some x) h = (sym (ap next h), sym (ap later h))
 
 -- shares at the front of a table are dealt as they are
 pub dealt_front : {Q : Type 0} (no_worse : Q → Q → Bool) (cut : Q) (bids : List (Bid Q)) (xs more : List ℕ) → length xs ≡ length (demands_at no_worse cut bids)
@@ -144,15 +159,13 @@ module _ {Q : Type 0} where
 
     module _ (cut : Q) where
       -- the shares in turn
-      pub dealt_next : (shares : List ℕ) (n : ℕ) → n < length shares → true ≡ (r.standing && same no_worse r.quote cut)
-          → rows_by (λ bids. dealt no_worse cut bids (drop n shares)) (drop i rows) ≡ get_or shares n 0 ∷ rows_by (λ bids. dealt no_worse cut bids (drop (n + 1) shares)) after
-      dealt_next shares n k at =
+      pub dealt_next : (shares : List ℕ) → true ≡ (r.standing && same no_worse r.quote cut)
+          → rows_by (λ bids. dealt no_worse cut bids shares) (drop i rows) ≡ next shares ∷ rows_by (λ bids. dealt no_worse cut bids (later shares)) after
+      dealt_next shares at =
           let two = and_parts r.standing (same no_worse r.quote cut) (sym at) in
-          rows_more (λ bids. dealt no_worse cut bids (drop n shares)) (λ bids. dealt no_worse cut bids (later (drop n shares))) (next (drop n shares))
+          rows_more (λ bids. dealt no_worse cut bids shares) (λ bids. dealt no_worse cut bids (later shares)) (next shares)
           (λ s. same_takes (no_worse r.quote cut) (no_worse cut r.quote) _ _ _ two.1)
           (λ s. absurd (both_ways r.standing s two.0))
-          ∙ ap (λ x. x ∷ rows_by (λ bids. dealt no_worse cut bids (later (drop n shares))) after) (at_drop_more next shares n 0 k)
-          ∙ ap (λ xs. get_or shares n 0 ∷ rows_by (λ bids. dealt no_worse cut bids xs) after) (at_drop_more later shares n 0 k)
 
       -- a better bid, or one that gets nothing
       pub dealt_past : (shares : List ℕ) (x : ℕ) → x ≡ counted (λ q. better no_worse q cut) r → false ≡ (r.standing && same no_worse r.quote cut)

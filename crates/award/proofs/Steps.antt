@@ -1,6 +1,6 @@
 -- One row more: what a loop over the rows has still to see.
-use Rattle.std.proofs.Common.{◌≡◌, ℕ, ◌+◌, ◌-◌, ◌*◌, ◌^◌, ◌<◌, ◌≤◌, Bool, true, false, cond, ◌&&◌, List, ◌∷◌, length, get_or, drop, Some, None, Option, sym, refl, ap, ◌∙◌, arith}
-use Rattle.std.proofs.lemmas.List.{at_drop_more, at_drop_all}
+use Rattle.std.proofs.Common.{◌≡◌, ℕ, ◌+◌, ◌-◌, ◌*◌, ◌^◌, ◌<◌, ◌≤◌, Bool, true, false, cond, ◌&&◌, List, [], ◌∷◌, ◌++◌, length, get_or, drop, filter, Some, None, Option, sym, refl, ap, ◌∙◌, append_assoc, arith}
+use Rattle.std.proofs.lemmas.List.{at_drop_more, at_drop_all, append-nil}
 use Rattle.std.proofs.lemmas.List.Sums.{sum_by-cons}
 use Rattle.award.specs.declared.row.Row.{Row}
 use Rattle.award.specs.Award.{Bid, asked, foremost, earlier}
@@ -20,60 +20,61 @@ module _ {Q : Type 0} (rows : List (Row Q)) where
         go true = sum_by-cons (λ (b : Bid Q). cond (such b.quote) b.lots 0) (bid_in r) (standing (drop (i + 1) rows))
         go false = omega arith
 
-    pub count_more : length (standing (drop i rows)) ≡ cond r.standing 1 0 + length (standing (drop (i + 1) rows))
-    count_more = left_more (λ rs. length (standing rs)) ∙ go r.standing
-      where
-        go : (s : Bool) → length (cond s (bid_in r ∷ standing (drop (i + 1) rows)) (standing (drop (i + 1) rows))) ≡ cond s 1 0 + length (standing (drop (i + 1) rows))
-        go true = omega arith
-        go false = omega arith
-
-  -- a loop that counts: what was counted and those that stand from i on are the whole
-  abbrev pub Counting : ℕ → ℕ → Type 0
-  Counting i count = (count + length (standing (drop i rows)) ≡ length (standing rows)) × (count ≤ i)
-
-  pub counting_more : (i count x : ℕ) (r : Row Q) → i < length rows → r ≡ get_or rows i r → x ≡ cond r.standing 1 0 → Counting i count → Counting (i + 1) (count + x)
-  counting_more i count x r lt is this inv =
-      (omega (arith, count_more i r lt is), omega (arith, one r.standing))
-    where
-      one : (s : Bool) → cond s 1 0 ≤ 1
-      one true = omega arith
-      one false = omega arith
-
-  pub counting_all : (i count : ℕ) → length rows ≤ i → Counting i count → count ≡ length (standing rows)
-  counting_all i count end inv = omega (arith, at_drop_all (λ rs. length (standing rs)) rows i end)
-
-  -- a loop that sums: what was summed and what the rows from i on ask for are the whole, and the sum is small
+  -- a loop that sums: what was summed and what the rows from i on ask for are the whole
   module _ (such : Q → Bool) where
     abbrev pub Summing : ℕ → ℕ → Type 0
-    Summing i total = (total + asked such (standing (drop i rows)) ≡ asked such (standing rows)) × (total ≤ 2 ^ 32 * i)
+    Summing i total = total + asked such (standing (drop i rows)) ≡ asked such (standing rows)
 
-    pub summing_more : (i total x : ℕ) (r : Row Q) → i < length rows → r ≡ get_or rows i r → x ≡ counted such r → x < 2 ^ 32 → Summing i total → Summing (i + 1) (total + x)
-    summing_more i total x r lt is this small inv = (omega (arith, asked_more i r lt is such), omega arith)
+    pub summing_more : (i total x : ℕ) (r : Row Q) → i < length rows → r ≡ get_or rows i r → x ≡ counted such r → Summing i total → Summing (i + 1) (total + x)
+    summing_more i total x r lt is this inv = omega (arith, asked_more i r lt is such)
 
     pub summing_all : (i total : ℕ) → length rows ≤ i → Summing i total → total ≡ asked such (standing rows)
     summing_all i total end inv = omega (arith, at_drop_all (λ rs. asked such (standing rs)) rows i end)
 
-  -- the foremost quote of the rows from i on, for a loop from the last row to the first
+module _ {Q : Type 0} where
+  -- how many rows stand
+  pub count_standing : (rows : List (Row Q)) → length (filter (λ r. r.standing) rows) ≡ length (standing rows)
+  count_standing [] = refl
+  count_standing (r ∷ rows) = go r.standing (count_standing rows)
+    where
+      go : (s : Bool) → length (filter (λ r. r.standing) rows) ≡ length (standing rows)
+          → length (cond s (r ∷ filter (λ r. r.standing) rows) (filter (λ r. r.standing) rows)) ≡ length (cond s (bid_in r ∷ standing rows) (standing rows))
+      go true h = omega arith
+      go false h = h
+
+  -- a loop from the last row to the first: what was found is the foremost quote of the rows seen, which stand after those that are left
   module _ (before : Q → Q → Bool) (such : Q → Bool) where
-    abbrev pub foremost_from : ℕ → Option Q
-    foremost_from i = foremost before such (standing (drop i rows))
+    abbrev pub Sought : List (Row Q) → List (Row Q) → Option Q → Type 0
+    Sought rows left found = (seen : List (Row Q)) × (rows ≡ left ++ seen) × (found ≡ foremost before such (standing seen))
 
-    pub foremost_none : None ≡ foremost_from (length rows)
-    foremost_none = sym (at_drop_all (λ rs. foremost before such (standing rs)) rows (length rows) (omega arith))
+    pub sought_none : (rows left : List (Row Q)) → left ≡ rows → Sought rows left None
+    sought_none rows left e = ([], sym (append-nil rows) ∙ ap (λ (xs : List (Row Q)). xs ++ []) (sym e), refl)
 
-    unrolled : (i : ℕ) (r : Row Q) → 0 < i → i - 1 < length rows → r ≡ get_or rows (i - 1) r
-        → cond (r.standing && such r.quote) (Some (earlier before r.quote (foremost_from i))) (foremost_from i) ≡ foremost_from (i - 1)
-    unrolled i r some lt is = sym (left_more (i - 1) r lt is (λ rs. foremost before such (standing rs)) ∙ go r.standing)
+    -- one row more, whose bid stands at such a quote or does not
+    sought_one : (rows left now : List (Row Q)) (r : Row Q) (found new : Option Q) → left ≡ now ++ (r ∷ [])
+        → new ≡ cond (r.standing && such r.quote) (Some (earlier before r.quote found)) found → Sought rows left found → Sought rows now new
+    sought_one rows left now r found new e f inv = (
+      r ∷ inv.0,
+      inv.1 ∙ ap (λ (xs : List (Row Q)). xs ++ inv.0) e ∙ append_assoc now (r ∷ []) inv.0,
+      f ∙ ap (λ (o : Option Q). cond (r.standing && such r.quote) (Some (earlier before r.quote o)) o) inv.2 ∙ go r.standing,
+    )
       where
-        back : i - 1 + 1 ≡ i
-        back = omega arith
+        rest : Option Q
+        rest = foremost before such (standing inv.0)
 
-        go : (s : Bool) → foremost before such (cond s (bid_in r ∷ standing (drop (i - 1 + 1) rows)) (standing (drop (i - 1 + 1) rows)))
-            ≡ cond (s && such r.quote) (Some (earlier before r.quote (foremost_from i))) (foremost_from i)
-        go true = rw back refl
-        go false = rw back refl
+        go : (s : Bool) → cond (s && such r.quote) (Some (earlier before r.quote rest)) rest ≡ foremost before such (cond s (bid_in r ∷ standing inv.0) (standing inv.0))
+        go true = refl
+        go false = refl
 
-    pub foremost_more : (i : ℕ) (r : Row Q) (found : Option Q) → 0 < i → i - 1 < length rows → r ≡ get_or rows (i - 1) r → found ≡ foremost_from i
-        → cond (r.standing && such r.quote) (Some (earlier before r.quote found)) found ≡ foremost_from (i - 1)
-    foremost_more i r found some lt is e =
-        ap (λ (o : Option Q). cond (r.standing && such r.quote) (Some (earlier before r.quote o)) o) e ∙ unrolled i r some lt is
+    pub sought_more : (rows left now : List (Row Q)) (r : Row Q) (found : Option Q) (q : Q) → left ≡ now ++ (r ∷ []) → true ≡ (r.standing && such r.quote)
+        → q ≡ earlier before r.quote found → Sought rows left found → Sought rows now (Some q)
+    sought_more rows left now r found q e stands f =
+        sought_one rows left now r found (Some q) e (ap Some f ∙ ap (λ b. cond b (Some (earlier before r.quote found)) found) stands)
+
+    pub sought_past : (rows left now : List (Row Q)) (r : Row Q) (found : Option Q) → left ≡ now ++ (r ∷ []) → false ≡ (r.standing && such r.quote)
+        → Sought rows left found → Sought rows now found
+    sought_past rows left now r found e out = sought_one rows left now r found found e (ap (λ b. cond b (Some (earlier before r.quote found)) found) out)
+
+    pub sought_all : (rows left : List (Row Q)) (found : Option Q) → length left ≡ 0 → Sought rows left found → found ≡ foremost before such (standing rows)
+    sought_all rows [] found e inv = inv.2 ∙ ap (λ (xs : List (Row Q)). foremost before such (standing xs)) (sym inv.1)
+    sought_all rows (r ∷ left) found e inv = absurd (let z : ⊥ = omega arith in z)

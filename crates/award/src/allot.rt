@@ -8,7 +8,9 @@ use crate::row::Row;
 pub fn allot<Q: Copy>(rows: &mut [Row<Q>], lots: &[u32])
     ensures { rows.new ≡ given_to rows.old lots.now }
 {
-    for i in 0..rows.len().min(lots.len()) {
-        rows[i] = rows[i].with_lots(lots[i]);
+    for (i, row) in rows.iter_mut().enumerate() {
+        if let Some(lots) = lots.get(i) {
+            *row = row.with_lots(*lots);
+        }
     }
 }

@@ -1,38 +1,43 @@
-use Rattle.std.proofs.Common.{◌≡◌, ℕ, ◌+◌, List, length, get_or, drop, set, sym, refl, ap, ◌∙◌, arith}
+use Rattle.std.proofs.Common.{ℕ, ◌+◌, ◌≡◌, Bool, List, Option, Iter, length, drop, set, sym, refl, ap, ◌∙◌, arith, rules}
+use Rattle.std.specs.Option.{unwrap_or}
 use Rattle.std.proofs.lemmas.List.{at_drop_all}
 use Rattle.terms.proofs.Filling.{filling_next, filling_laid}
-use Rattle.award.specs.Award.{dealt}
+use Rattle.award.specs.Award.{same, better, dealt, next, later}
 use Rattle.award.specs.Rows.{standing}
-use Rattle.award.proofs.Handing.{rows_by, by_row_length, dealt_next, dealt_past, filling_as}
+use Rattle.award.proofs.Handing.{rows_by, by_row_length, dealt_next, dealt_past, share_taken, filling_as}
 use Rattle.award.proofs.hand_out.deal.Goals as goal
-use Rattle.award.proofs.hand_out.deal.Goals.{then-at_cut, else-at_cut}
+use Rattle.award.proofs.hand_out.deal.Goals.{then-stands_at, else-stands_at}
 
 pub loop-i-preserved : goal.loop-i-preserved
 loop-i-preserved g c =
     let no_worse = g.Q.Quote.no_worse in
     let rows = c.args.rows.now in
-    let shares = c.args.shares.now in
     let row = c.index-rows-i.result in
     let i = c.loop-i.i in
-    let n = c.loop-i.next in
     let old = c.args.lots.now in
-    let from : ℕ → ℕ → List ℕ = λ m k. rows_by (λ bids. dealt no_worse c.args.cut bids (drop m shares)) (drop k rows) in
-    let whole = rows_by (λ bids. dealt no_worse c.args.cut bids shares) rows in
-    elim c.if-at_cut.branch [
-      | then-at_cut w ↦ (
-        omega (arith, w.next-is),
-        filling_as (i + 1) (i + 1) c.if-at_cut.lots (set c.loop-i.lots i (get_or shares n 0)) old (from (n + 1) (i + 1)) (from c.if-at_cut.next (i + 1)) whole
-            refl w.lots-is (ap (λ (m : ℕ). from m (i + 1)) (sym w.next-is))
-            (filling_next i (get_or shares n 0) c.loop-i.lots old (from n i) (from (n + 1) (i + 1)) whole (omega arith)
-            (dealt_next no_worse rows i row c.loop-i-test.true c.index-rows-i.is c.args.cut shares n (omega arith) w.if-at_cut.ensures) c.loop-i.invariant.1),
-      )
-      | else-at_cut w ↦ (
-        omega (arith, w.next-is),
-        filling_as (i + 1) (i + 1) c.if-at_cut.lots (set c.loop-i.lots i w.lots_better.result) old (from n (i + 1)) (from c.if-at_cut.next (i + 1)) whole
-            refl w.lots-is (ap (λ (m : ℕ). from m (i + 1)) (sym w.next-is))
-            (filling_next i w.lots_better.result c.loop-i.lots old (from n i) (from n (i + 1)) whole (omega arith)
-            (dealt_past no_worse rows i row c.loop-i-test.true c.index-rows-i.is c.args.cut (drop n shares) w.lots_better.result w.lots_better.ensures w.if-at_cut.ensures) c.loop-i.invariant.1),
-      )
+    let left = c.loop-i.left.rest.now in
+    let from : List ℕ → ℕ → List ℕ = λ shares k. rows_by (λ bids. dealt no_worse c.args.cut bids shares) (drop k rows) in
+    let whole = rows_by (λ bids. dealt no_worse c.args.cut bids c.args.shares.now) rows in
+    let test = c.stands_at.ensures in
+    elim c.if-stands_at.branch [
+      | then-stands_at w ↦ (
+          let step = share_taken c.loop-i.left w.next.new.self w.next.result w.next.ensures.steps in
+          let share : c.if-stands_at.lots ≡ next left = w.lots-is ∙ w.unwrap_or.ensures ∙ ap (λ (o : Option ℕ). unwrap_or o 0) w.copied.ensures ∙ step.0 in
+          let others : later left ≡ c.if-stands_at.left.rest.now = sym (ap (λ (s : Iter ℕ). s.rest.now) w.left-is ∙ step.1) in
+          filling_as (i + 1) (i + 1) (set c.loop-i.lots i c.if-stands_at.lots) (set c.loop-i.lots i (next left)) old (from (later left) (i + 1)) (from c.if-stands_at.left.rest.now (i + 1)) whole
+          refl (ap (set c.loop-i.lots i) share) (ap (λ (xs : List ℕ). from xs (i + 1)) others)
+          (filling_next i (next left) c.loop-i.lots old (from left i) (from (later left) (i + 1)) whole (omega arith)
+          (dealt_next no_worse rows i row c.loop-i-test.true c.index-rows-i.is c.args.cut left (sym w.if-stands_at.true ∙ test)) c.loop-i.invariant)
+          )
+      | else-stands_at w ↦ (
+          let x = w.lots_where.result in
+          let same_left : left ≡ c.if-stands_at.left.rest.now = sym (ap (λ (s : Iter ℕ). s.rest.now) w.left-is) in
+          filling_as (i + 1) (i + 1) (set c.loop-i.lots i c.if-stands_at.lots) (set c.loop-i.lots i x) old (from left (i + 1)) (from c.if-stands_at.left.rest.now (i + 1)) whole
+          refl (ap (set c.loop-i.lots i) w.lots-is) (ap (λ (xs : List ℕ). from xs (i + 1)) same_left)
+          (filling_next i x c.loop-i.lots old (from left i) (from left (i + 1)) whole (omega arith)
+          (dealt_past no_worse rows i row c.loop-i-test.true c.index-rows-i.is c.args.cut left x (w.lots_where.ensures (λ q. better no_worse q c.args.cut) (λ q b k. search rules))
+          (sym w.if-stands_at.false ∙ test)) c.loop-i.invariant)
+          )
     ]
 
 pub returns : goal.returns
@@ -40,7 +45,7 @@ returns g c =
     let no_worse = g.Q.Quote.no_worse in
     let rows = c.args.rows.now in
     let F : List ℕ → _ = λ shares. rows_by (λ bids. dealt no_worse c.args.cut bids shares) in
-    let left = F (drop c.loop-i.next c.args.shares.now) in
+    let left = F c.loop-i.left.rest.now in
     let end : c.loop-i.i ≡ length rows = omega arith in
     filling_laid c.loop-i.i c.loop-i.lots c.args.lots.now (left (drop c.loop-i.i rows)) (F c.args.shares.now rows)
-    (end ∙ sym (by_row_length rows (dealt no_worse c.args.cut (standing rows) c.args.shares.now))) (at_drop_all left rows c.loop-i.i c.loop-i-test.false) c.loop-i.invariant.1
+    (end ∙ sym (by_row_length rows (dealt no_worse c.args.cut (standing rows) c.args.shares.now))) (at_drop_all left rows c.loop-i.i c.loop-i-test.false) c.loop-i.invariant

@@ -1,10 +1,11 @@
-use Rattle.std.proofs.Common.{ℕ, List, set, ap, ◌∙◌, arith}
-use Rattle.std.proofs.lemmas.List.Edits.{fill_more}
+use Rattle.std.proofs.Common.{ℕ, List, ◌++◌, drop, length, replicate, refl, ap, ◌∙◌}
+use Rattle.std.proofs.lemmas.List.{length-take-le}
 use Rattle.award.proofs.Handing.{none_laid}
 use Rattle.award.proofs.hand_out.serve_none.Goals as goal
 
-pub loop-i-preserved : goal.loop-i-preserved
-loop-i-preserved g c = ap (λ (xs : List ℕ). set xs c.loop-i.i 0) c.loop-i.invariant ∙ fill_more c.loop-i.i 0 c.args.lots.now (omega arith)
-
 pub returns : goal.returns
-returns g c = none_laid c.args.rows.now c.loop-i.i c.loop-i.lots c.args.lots.now (omega arith) c.loop-i.invariant
+returns g c =
+    let rows = c.args.rows.now in
+    let old = c.args.lots.now in
+    none_laid rows (length rows) (c.fill.new.self ++ drop (length rows) old) old refl
+    (ap (λ (xs : List ℕ). xs ++ drop (length rows) old) (c.fill.ensures.after (λ y k. k) ∙ ap (λ (n : ℕ). replicate n 0) (length-take-le (length rows) old c.requires)))
