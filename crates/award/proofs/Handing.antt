@@ -1,10 +1,10 @@
 -- What is still to be written into a table, one row more.
 use Rattle.std.proofs.Common.{◌≡◌, ℕ, suc, ◌+◌, ◌-◌, ◌<◌, ◌≤◌, Bool, true, false, cond, not, ◌&&◌, List, [], ◌∷◌, ◌++◌, map, length, get_or, take, drop, set, replicate, filter, Some, None, Option, MatchOption, Iter, Bor, sym, refl, ap, ◌∙◌, subst, arith}
 use Rattle.std.specs.Option.{option_copied, unwrap_or}
-use Rattle.std.proofs.lemmas.List.{at_drop_more, at_drop_all, append-nil, length-take-le, take_at, drop_at, drop-drop}
+use Rattle.std.proofs.lemmas.List.{take_at, drop_at, drop-drop}
 use Rattle.std.proofs.lemmas.Bool.{and_parts, both_ways}
 use Rattle.terms.specs.Sharing.{laid}
-use Rattle.terms.proofs.Filling.{Filling, filling_next, filling_laid, laid_from}
+use Rattle.terms.proofs.Filling.{Filling, filling_next, laid_from}
 use Rattle.award.specs.declared.row.Row.{Row}
 use Rattle.award.specs.Award.{Bid, next, later, same, better, in_full, demands_at, dealt}
 use Rattle.award.specs.Rows.{bid_in, standing, counted, by_row}
@@ -15,11 +15,6 @@ use Rattle.award.proofs.Steps.{left_more}
 pub filling_as : (i j : ℕ) (table other old left now_left whole : List ℕ) → i ≡ j → table ≡ other → left ≡ now_left → Filling j other old left whole → Filling i table old now_left whole
 filling_as i j table other old left now_left whole at is same inv =
     subst (λ (k : ℕ). Filling k table old now_left whole) (sym at) (subst (λ (t : List ℕ). Filling j t old now_left whole) (sym is) (subst (λ (l : List ℕ). Filling j other old l whole) same inv))
-
--- how much was written, once nothing is left to write
-pub written_length : (n : ℕ) (table left whole : List ℕ) → n ≤ length table → left ≡ [] → take n table ++ left ≡ whole → n ≡ length whole
-written_length n table left whole h e f =
-    sym (length-take-le n table h) ∙ ap length (sym (append-nil (take n table)) ∙ ap (λ xs. take n table ++ xs) (sym e) ∙ f)
 
 -- the front of a table, where a list was laid
 pub front_laid : (xs table old : List ℕ) (n : ℕ) → n ≡ length xs → table ≡ laid xs old → take (n - 0) table ≡ xs
@@ -135,11 +130,6 @@ module _ {Q : Type 0} where
         → Serving i table old → Serving (i + 1) (set table i x) old
     serving_more i x table old lt e inv = filling_next i x table old (rows_by F (drop i rows)) (rows_by F (drop (i + 1) rows)) (rows_by F rows) lt e inv
 
-    pub serving_all : (i : ℕ) (table old : List ℕ) → i ≡ length rows → Serving i table old → table ≡ laid (rows_by F rows) old
-    serving_all i table old end inv =
-        filling_laid i table old (rows_by F (drop i rows)) (rows_by F rows) (end ∙ sym (by_row_length rows (F (standing rows))))
-        (at_drop_all (rows_by F) rows i (omega arith)) inv
-
   module _ (no_worse : Q → Q → Bool) (rows : List (Row Q)) (i : ℕ) (r : Row Q) (lt : i < length rows) (is : r ≡ get_or rows i r) where
     abbrev after : List (Row Q)
     after = drop (i + 1) rows
@@ -175,23 +165,3 @@ module _ {Q : Type 0} where
           (λ s. same_not (no_worse r.quote cut) (no_worse cut r.quote) r.lots (dealt no_worse cut (standing after) shares) _ (second_false r.standing (same no_worse r.quote cut) past s)
           ∙ ap (λ y. y ∷ dealt no_worse cut (standing after) shares) (sym (e ∙ ap (λ b. cond (b && better no_worse r.quote cut) r.lots 0) s)))
           (λ s. (e ∙ ap (λ b. cond (b && better no_worse r.quote cut) r.lots 0) s, refl))
-
-      -- the demands
-      demands_from : demands_at no_worse cut (standing (drop i rows))
-          ≡ cond (r.standing && same no_worse r.quote cut) (r.lots ∷ demands_at no_worse cut (standing after)) (demands_at no_worse cut (standing after))
-      demands_from = left_more rows i r lt is (λ rs. demands_at no_worse cut (standing rs)) ∙ go r.standing (same no_worse r.quote cut) refl
-        where
-          go : (s p : Bool) → same no_worse r.quote cut ≡ p
-              → demands_at no_worse cut (cond s (bid_in r ∷ standing after) (standing after))
-              ≡ cond (s && p) (r.lots ∷ demands_at no_worse cut (standing after)) (demands_at no_worse cut (standing after))
-          go true true e = rw e refl
-          go true false e = rw e refl
-          go false p e = refl
-
-      pub gathered_at : true ≡ (r.standing && same no_worse r.quote cut)
-          → demands_at no_worse cut (standing (drop i rows)) ≡ r.lots ∷ demands_at no_worse cut (standing after)
-      gathered_at at = demands_from ∙ ap (λ b. cond b (r.lots ∷ demands_at no_worse cut (standing after)) (demands_at no_worse cut (standing after))) (sym at)
-
-      pub gathered_past : false ≡ (r.standing && same no_worse r.quote cut)
-          → demands_at no_worse cut (standing (drop i rows)) ≡ demands_at no_worse cut (standing after)
-      gathered_past past = demands_from ∙ ap (λ b. cond b (r.lots ∷ demands_at no_worse cut (standing after)) (demands_at no_worse cut (standing after))) (sym past)

@@ -7,4 +7,3 @@ pub mod Steps
 pub mod Handing
 pub mod Ready
 pub mod Allotting
-pub mod Telling

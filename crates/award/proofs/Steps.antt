@@ -1,6 +1,6 @@
 -- One row more: what a loop over the rows has still to see.
-use Rattle.std.proofs.Common.{◌≡◌, ℕ, ◌+◌, ◌-◌, ◌*◌, ◌^◌, ◌<◌, ◌≤◌, Bool, true, false, cond, ◌&&◌, List, [], ◌∷◌, ◌++◌, length, get_or, drop, filter, Some, None, Option, sym, refl, ap, ◌∙◌, append_assoc, arith}
-use Rattle.std.proofs.lemmas.List.{at_drop_more, at_drop_all, append-nil}
+use Rattle.std.proofs.Common.{◌≡◌, ℕ, ◌+◌, ◌<◌, Bool, true, false, cond, ◌&&◌, List, [], ◌∷◌, ◌++◌, length, get_or, drop, filter, Some, Option, sym, refl, ap, ◌∙◌, append_assoc, arith}
+use Rattle.std.proofs.lemmas.List.{at_drop_more}
 use Rattle.std.proofs.lemmas.List.Sums.{sum_by-cons}
 use Rattle.award.specs.declared.row.Row.{Row}
 use Rattle.award.specs.Award.{Bid, asked, foremost, earlier}
@@ -28,9 +28,6 @@ module _ {Q : Type 0} (rows : List (Row Q)) where
     pub summing_more : (i total x : ℕ) (r : Row Q) → i < length rows → r ≡ get_or rows i r → x ≡ counted such r → Summing i total → Summing (i + 1) (total + x)
     summing_more i total x r lt is this inv = omega (arith, asked_more i r lt is such)
 
-    pub summing_all : (i total : ℕ) → length rows ≤ i → Summing i total → total ≡ asked such (standing rows)
-    summing_all i total end inv = omega (arith, at_drop_all (λ rs. asked such (standing rs)) rows i end)
-
 module _ {Q : Type 0} where
   -- how many rows stand
   pub count_standing : (rows : List (Row Q)) → length (filter (λ r. r.standing) rows) ≡ length (standing rows)
@@ -46,9 +43,6 @@ module _ {Q : Type 0} where
   module _ (before : Q → Q → Bool) (such : Q → Bool) where
     abbrev pub Sought : List (Row Q) → List (Row Q) → Option Q → Type 0
     Sought rows left found = (seen : List (Row Q)) × (rows ≡ left ++ seen) × (found ≡ foremost before such (standing seen))
-
-    pub sought_none : (rows left : List (Row Q)) → left ≡ rows → Sought rows left None
-    sought_none rows left e = ([], sym (append-nil rows) ∙ ap (λ (xs : List (Row Q)). xs ++ []) (sym e), refl)
 
     -- one row more, whose bid stands at such a quote or does not
     sought_one : (rows left now : List (Row Q)) (r : Row Q) (found new : Option Q) → left ≡ now ++ (r ∷ [])

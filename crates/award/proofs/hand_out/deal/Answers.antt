@@ -1,10 +1,8 @@
-use Rattle.std.proofs.Common.{ℕ, ◌+◌, ◌≡◌, Bool, List, Option, Iter, length, drop, set, sym, refl, ap, ◌∙◌, arith, rules}
+use Rattle.std.proofs.Common.{ℕ, ◌+◌, ◌≡◌, List, Option, Iter, drop, set, sym, refl, ap, ◌∙◌, arith, rules}
 use Rattle.std.specs.Option.{unwrap_or}
-use Rattle.std.proofs.lemmas.List.{at_drop_all}
-use Rattle.terms.proofs.Filling.{filling_next, filling_laid}
-use Rattle.award.specs.Award.{same, better, dealt, next, later}
-use Rattle.award.specs.Rows.{standing}
-use Rattle.award.proofs.Handing.{rows_by, by_row_length, dealt_next, dealt_past, share_taken, filling_as}
+use Rattle.terms.proofs.Filling.{filling_next}
+use Rattle.award.specs.Award.{better, dealt, next, later}
+use Rattle.award.proofs.Handing.{rows_by, dealt_next, dealt_past, share_taken, filling_as}
 use Rattle.award.proofs.hand_out.deal.Goals as goal
 use Rattle.award.proofs.hand_out.deal.Goals.{then-stands_at, else-stands_at}
 
@@ -39,13 +37,3 @@ loop-i-preserved g c =
           (sym w.if-stands_at.false ∙ test)) c.loop-i.invariant)
           )
     ]
-
-pub returns : goal.returns
-returns g c =
-    let no_worse = g.Q.Quote.no_worse in
-    let rows = c.args.rows.now in
-    let F : List ℕ → _ = λ shares. rows_by (λ bids. dealt no_worse c.args.cut bids shares) in
-    let left = F c.loop-i.left.rest.now in
-    let end : c.loop-i.i ≡ length rows = omega arith in
-    filling_laid c.loop-i.i c.loop-i.lots c.args.lots.now (left (drop c.loop-i.i rows)) (F c.args.shares.now rows)
-    (end ∙ sym (by_row_length rows (dealt no_worse c.args.cut (standing rows) c.args.shares.now))) (at_drop_all left rows c.loop-i.i c.loop-i-test.false) c.loop-i.invariant

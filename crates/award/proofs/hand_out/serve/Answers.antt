@@ -1,6 +1,6 @@
 use Rattle.std.proofs.Common.{arith, rules}
 use Rattle.award.specs.Award.{in_full}
-use Rattle.award.proofs.Handing.{serving_more, serving_all, served_more}
+use Rattle.award.proofs.Handing.{serving_more, served_more}
 use Rattle.award.proofs.hand_out.serve.Goals as goal
 
 pub loop-i-preserved : goal.loop-i-preserved
@@ -10,7 +10,3 @@ loop-i-preserved g c =
     (served_more no_worse c.args.rows.now c.loop-i.i c.index-rows-i.result c.loop-i-test.true c.index-rows-i.is c.args.limit c.lots_where.result
     (c.lots_where.ensures (λ q. no_worse q c.args.limit) (λ q b k. search rules)))
     c.loop-i.invariant
-
-pub returns : goal.returns
-returns g c =
-    serving_all (in_full g.Q.Quote.no_worse c.args.limit) c.args.rows.now c.loop-i.i c.loop-i.lots c.args.lots.now (omega arith) c.loop-i.invariant
