@@ -37,7 +37,3 @@ module _ {Q : Type 0} where
   given_all (s ∷ rows) [] (suc i) h = refl
   given_all (s ∷ rows) (x ∷ lots) zero h = absurd (let z : ⊥ = omega arith in z)
   given_all (s ∷ rows) (x ∷ lots) (suc i) h = ap (λ rs. with_lots x s ∷ rs) (given_all rows lots i (omega arith))
-
-  -- past the end of the list nothing is given
-  pub given_past : (rows : List (Row Q)) (lots : List ℕ) (i : ℕ) → length lots ≤ i → given_to rows (take i lots) ≡ given_to rows (take (i + 1) lots)
-  given_past rows lots i h = ap (given_to rows) (take_all i lots h ∙ sym (take_all (i + 1) lots (omega arith)))
