@@ -1,13 +1,11 @@
--- What is still to be written into a table, one row more.
-use Rattle.std.proofs.Common.{◌≡◌, ℕ, suc, ◌+◌, ◌-◌, ◌<◌, ◌≤◌, Bool, true, false, cond, not, ◌&&◌, List, [], ◌∷◌, ◌++◌, map, length, get_or, take, drop, set, replicate, filter, Some, None, Option, MatchOption, Iter, Bor, sym, refl, ap, ◌∙◌, subst, arith}
+-- What the tables of an award hold.
+use Rattle.std.proofs.Common.{◌≡◌, ℕ, suc, ◌+◌, ◌-◌, ◌≤◌, Bool, true, false, cond, not, ◌&&◌, List, [], ◌∷◌, ◌++◌, map, length, drop, replicate, filter, Some, None, Option, MatchOption, Iter, Bor, sym, refl, ap, ◌∙◌, arith}
 use Rattle.std.specs.Option.{option_copied, unwrap_or}
-use Rattle.std.proofs.lemmas.List.{take_at, drop_at, drop-drop}
-use Rattle.std.proofs.lemmas.Bool.{and_parts, both_ways}
+use Rattle.std.proofs.lemmas.List.{drop_at, drop-drop}
 use Rattle.terms.specs.Sharing.{laid}
-use Rattle.terms.proofs.Filling.{Filling, filling_next, laid_from}
 use Rattle.award.specs.declared.row.Row.{Row}
-use Rattle.award.specs.Award.{Bid, next, later, same, better, in_full, demands_at, dealt}
-use Rattle.award.specs.Rows.{bid_in, standing, counted, by_row}
+use Rattle.award.specs.Award.{Bid, next, later, same, demands_at, dealt}
+use Rattle.award.specs.Rows.{bid_in, standing, by_row}
 use Rattle.award.proofs.Divisible.{demands_few}
 
 -- a list laid over a shorter one leaves nothing of that
@@ -77,20 +75,15 @@ module _ {Q : Type 0} where
   abbrev pub rows_by : (List (Bid Q) → List ℕ) → List (Row Q) → List ℕ
   rows_by F rows = by_row rows (F (standing rows))
 
-  -- the first row: it stands, and gets what its bid does; or it does not
-  rows_first : (F G : List (Bid Q) → List ℕ) (x : ℕ) (r : Row Q) (rows : List (Row Q)) (s : Bool) → r.standing ≡ s
-      → (s ≡ true → F (bid_in r ∷ standing rows) ≡ x ∷ G (standing rows))
-      → (s ≡ false → (x ≡ 0) × (F (standing rows) ≡ G (standing rows)))
-      → rows_by F (r ∷ rows) ≡ x ∷ rows_by G rows
-  rows_first F G x r rows true e stands out = rw (e, stands refl) refl
-  rows_first F G x r rows false e stands out = rw (e, (out refl).1, (out refl).0) refl
-
   -- nothing for anyone
-  pub none_all : (rows : List (Row Q)) → rows_by (map (λ b. 0)) rows ≡ replicate (length rows) 0
-  none_all [] = refl
-  none_all (r ∷ rows) = rows_first (map (λ b. 0)) (map (λ b. 0)) 0 r rows r.standing refl (λ s. refl) (λ s. (refl, refl)) ∙ ap (λ xs. 0 ∷ xs) (none_all rows)
+  abbrev pub none : List (Bid Q) → List ℕ
+  none bids = map (λ b. 0) bids
 
-  pub none_laid : (rows : List (Row Q)) (i : ℕ) (table old : List ℕ) → i ≡ length rows → table ≡ replicate i 0 ++ drop i old → table ≡ laid (rows_by (map (λ b. 0)) rows) old
-  none_laid rows i table old end e =
-      laid_from (rows_by (map (λ b. 0)) rows) (replicate i 0) old table i (ap (λ n. replicate n 0) end ∙ sym (none_all rows))
-      (by_row_length rows (map (λ b. 0) (standing rows)) ∙ sym end) e
+  pub none_all : (rows : List (Row Q)) → by_row rows (none (standing rows)) ≡ replicate (length rows) 0
+  none_all [] = refl
+  none_all (r ∷ rows) = go r.standing (ap (λ xs. 0 ∷ xs) (none_all rows))
+    where
+      go : (s : Bool) → 0 ∷ by_row rows (none (standing rows)) ≡ replicate (length (r ∷ rows)) 0
+          → (let bids = cond s (bid_in r ∷ standing rows) (standing rows) in cond s (next (none bids) ∷ by_row rows (later (none bids))) (0 ∷ by_row rows (none bids))) ≡ replicate (length (r ∷ rows)) 0
+      go true h = h
+      go false h = h
