@@ -4,7 +4,8 @@ ghost use Rattle.award.specs.Rows.{given_to};
 
 use crate::row::Row;
 
-// Writes the allotment of each row from a list, as far as both go; all else in the rows is as it was.
+// Writes the allotment of each row from a list, as far as both go; all else in the rows is as it was. (By place: a zip with `iter_mut` leaves
+// the rows unknown.)
 pub fn allot<Q: Copy>(rows: &mut [Row<Q>], lots: &[u32])
     ensures { rows.new ≡ given_to rows.old lots.now }
 {

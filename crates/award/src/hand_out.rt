@@ -19,7 +19,7 @@ fn serve_none<Q: Quote>(rows: &[Row<Q>], lots: &mut [u32])
     lots[..rows.len()].fill(0);
 }
 
-// Each bid within the limit gets all its lots.
+// Each bid within the limit gets all its lots. (By place, here and in `deal`: a zip with `iter_mut` leaves the table's elements unknown.)
 fn serve<Q: Quote>(rows: &[Row<Q>], limit: Q, lots: &mut [u32])
     requires { length rows.now ≤ length lots.old }
     ensures { lots.new ≡ laid (by_row rows.now (in_full Q.Quote.no_worse limit (standing rows.now))) lots.old }
@@ -29,7 +29,8 @@ fn serve<Q: Quote>(rows: &[Row<Q>], limit: Q, lots: &mut [u32])
     }
 }
 
-// Gathers the demands at the cut-off in arrival order, and answers how many there are.
+// Gathers the demands at the cut-off in arrival order, and answers how many there are. (The count is the answer as well as the next place,
+// so to filter and enumerate the rows would only count them twice.)
 fn gather<Q: Quote>(rows: &[Row<Q>], cut: Q, demands: &mut [u32]) -> usize
     requires { length rows.now ≤ length demands.old }
     ensures count { result ≡ length (demands_at Q.Quote.no_worse cut (standing rows.now)) }

@@ -36,7 +36,7 @@ impl<'a, Q: Quote> Bids<'a, Q> {
     fn divided(&self, offer: u32, best: Option<Q>) -> Reckoning<Q>
         ensures { result ≡ divided_at Q.Quote.no_worse offer (standing self.now.rows.now) best }
     {
-        // A match, since what a closure makes of a variant is not read from its body.
+        // (A match: with `map_or` the proof does not close, since the closure's contract does not tell which variant it made.)
         match best {
             Some(cut) => Reckoning::Divided(cut, self.balance(offer, cut)),
             None => Reckoning::Void,
