@@ -1,5 +1,5 @@
 -- Rows that were given their allotments so far, one row more.
-use Rattle.std.proofs.Common.{◌≡◌, ℕ, zero, suc, ◌+◌, ◌<◌, ◌≤◌, min, List, [], ◌∷◌, length, get_or, take, set, sym, refl, ap, ◌∙◌, add-one, arith}
+use Rattle.std.proofs.Common.{◌≡◌, ℕ, zero, suc, ◌+◌, ◌<◌, List, [], ◌∷◌, length, get_or, take, set, sym, refl, ap, ◌∙◌, add-one, arith}
 use Rattle.award.specs.declared.row.Row.{Row}
 use Rattle.award.specs.Rows.{with_lots, given_to}
 
@@ -29,10 +29,3 @@ module _ {Q : Type 0} where
       ap (set now i) this ∙ ap (λ rs. set rs i (with_lots (get_or lots i 0) r)) inv
       ∙ given_suc rows lots i r r h k (is ∙ ap (λ rs. get_or rs i r) inv ∙ later_row rows lots i r)
       ∙ ap (λ n. given_to rows (take n lots)) (sym (add-one i))
-
-  pub given_all : (rows : List (Row Q)) (lots : List ℕ) (i : ℕ) → min (length rows) (length lots) ≤ i → given_to rows (take i lots) ≡ given_to rows lots
-  given_all [] lots i h = refl
-  given_all (s ∷ rows) [] zero h = refl
-  given_all (s ∷ rows) [] (suc i) h = refl
-  given_all (s ∷ rows) (x ∷ lots) zero h = absurd (let z : ⊥ = omega arith in z)
-  given_all (s ∷ rows) (x ∷ lots) (suc i) h = ap (λ rs. with_lots x s ∷ rs) (given_all rows lots i (omega arith))

@@ -1,16 +1,13 @@
 -- What was reckoned can be handed out; and what is handed out where a balance is divided.
-use Rattle.std.proofs.Common.{◌≡◌, ℕ, ◌≤◌, Bool, true, false, cond, ◌||◌, ltb, leb, List, [], ◌∷◌, length, drop, Some, None, Option, sym, refl, ap, ◌∙◌, subst, arith}
+use Rattle.std.proofs.Common.{◌≡◌, ℕ, ◌≤◌, Bool, true, false, cond, leb, List, [], ◌∷◌, length, drop, Some, None, Option, sym, refl, ap, ◌∙◌, subst, arith}
 use Rattle.std.specs.List.{AllByRecursion as All}
-use Rattle.std.proofs.lemmas.Bool.{and_parts, or_parts, leb-true, ltb-false}
-use Rattle.terms.specs.Grounds.{first}
+use Rattle.std.proofs.lemmas.Bool.{and_parts, leb-true}
 use Rattle.terms.specs.Sharing.{most_lots, most_demands, demand_fits, lots_fit, few, laid, Fair}
-use Rattle.award.specs.declared.fault.AwardFault.TheVariants.{ShortTable}
 use Rattle.award.specs.declared.row.Row.{Row}
 use Rattle.award.specs.declared.reckoning.Reckoning.{Reckoning}
 use Rattle.award.specs.declared.reckoning.Reckoning.TheVariants.{Void, Divided}
 use Rattle.award.specs.Award.{Bid, Terms, demand, void, worst_within, best_reaching, demands_at, dealt, everyone_at, divided_at, reckoned, handed_out}
 use Rattle.award.specs.Rows.{bid_in, standing, rows_fit, by_row}
-use Rattle.award.specs.Faults.{award_grounds}
 use Rattle.award.specs.Handing.{Divisible, Ready}
 use Rattle.award.proofs.Foremost.{finds_such}
 use Rattle.award.proofs.Divisible.{divisible, few_demands}
@@ -74,14 +71,3 @@ module _ {Q : Type 0} where
           ∙ ap (laid (by_row rows (dealt no_worse cut bids xs))) gathered
           ∙ laid_over ds (by_row rows (dealt no_worse cut bids xs)) old (omega (arith, demands_rows no_worse cut rows, by_row_length rows (dealt no_worse cut bids xs)))
           ∙ ap (λ q. laid (by_row rows (handed_out no_worse share limit bids q)) old) (sym is)
-
--- tables that were not refused have a place for each row
-pub tables_fit : (rows demands shares : ℕ) → None ≡ first (award_grounds rows demands shares) → (rows ≤ demands) × (rows ≤ shares)
-tables_fit rows demands shares e =
-    let short = ltb demands rows || ltb shares rows in
-    let p = or_parts (ltb demands rows) (ltb shares rows) (go short e) in
-    (ltb-false demands rows p.0, ltb-false shares rows p.1)
-  where
-    go : (v : Bool) → None ≡ cond v (Some ShortTable) None → v ≡ false
-    go true k = absurd (let z : ◌≡◌ {A = ℕ} 0 1 = cc in let w : ⊥ = omega arith in w)
-    go false k = refl

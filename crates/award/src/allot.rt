@@ -4,11 +4,14 @@ ghost use Rattle.award.specs.Rows.{given_to};
 
 use crate::row::Row;
 
-// Writes the allotment of each row from a list, as far as both go; all else in the rows is as it was.
+// Writes the allotment of each row from a list, as far as both go; all else in the rows is as it was. (By place: a zip with `iter_mut` leaves
+// the rows unknown.)
 pub fn allot<Q: Copy>(rows: &mut [Row<Q>], lots: &[u32])
     ensures { rows.new ≡ given_to rows.old lots.now }
 {
-    for i in 0..rows.len().min(lots.len()) {
-        rows[i] = rows[i].with_lots(lots[i]);
+    for (i, row) in rows.iter_mut().enumerate() {
+        if let Some(lots) = lots.get(i) {
+            *row = row.with_lots(*lots);
+        }
     }
 }

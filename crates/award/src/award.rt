@@ -2,7 +2,7 @@
 ghost use Rattle.std.specs.Prelude.{◌≡◌, length};
 ghost use Rattle.terms.specs.Grounds.{first, refused};
 ghost use Rattle.terms.specs.Sharing.{filled};
-ghost use Rattle.award.specs.Award.{cut_of, cut_off};
+ghost use Rattle.award.specs.Award.{cut_off};
 ghost use Rattle.award.specs.Rows.{standing, terms_of, lots_by_row, shares_at_cut};
 ghost use Rattle.award.specs.Faults.{award_grounds, answered};
 
@@ -10,8 +10,6 @@ use crate::bids::Bids;
 use crate::conditions::Conditions;
 use crate::fault::AwardFault;
 use crate::hand_out::hand_out;
-use crate::reckon::reckon;
-use crate::reckoning::Reckoning;
 use terms::quote::Quote;
 use terms::sharing::SharingRule;
 
@@ -25,20 +23,10 @@ fn check_tables(rows: usize, demands: usize, shares: usize) -> Result<(), AwardF
     Ok(())
 }
 
-// The cut-off that was reckoned; a void act has none.
-fn cut_of<Q: Quote>(reckoning: Reckoning<Q>) -> Option<Q>
-    ensures { result ≡ cut_of reckoning }
-{
-    match reckoning {
-        Reckoning::Void => None,
-        Reckoning::Everyone(cut) => Some(cut),
-        Reckoning::Divided(cut, _) => Some(cut),
-    }
-}
-
 // Awards the offer among the bids, and answers the cut-off, which is absent in a void act. The front of the first table then holds the
 // lots of each row, that of the second the shares at the cut-off, and their other places are as they were. It is refused exactly where a
-// table is shorter than the rows; both are then as they were.
+// table is shorter than the rows; both are then as they were. (The tables stay two slices: in a struct behind a `&mut` every contract would
+// also have to say that both are still the caller's own.)
 pub fn award<'a, Q: Quote, R: SharingRule>(
     bids: Bids<'a, Q>,
     conditions: Conditions,
@@ -50,9 +38,8 @@ pub fn award<'a, Q: Quote, R: SharingRule>(
     ensures lots { demands.new ≡ filled (refused result) (lots_by_row Q.Quote.no_worse R.SharingRule.meaning (terms_of conditions) limit bids.entry.rows.now) demands.old }
     ensures shares { shares.new ≡ filled (refused result) (shares_at_cut Q.Quote.no_worse R.SharingRule.meaning (terms_of conditions) limit bids.entry.rows.now) shares.old }
 {
-    let rows = bids.rows;
-    check_tables(rows.len(), demands.len(), shares.len())?;
-    let reckoning = reckon(rows, conditions, limit);
-    hand_out::<Q, R>(rows, limit, reckoning, demands, shares);
-    Ok(cut_of(reckoning))
+    check_tables(bids.rows.len(), demands.len(), shares.len())?;
+    let reckoning = bids.reckon(conditions, limit);
+    hand_out::<Q, R>(bids.rows, limit, reckoning, demands, shares);
+    Ok(reckoning.cut())
 }

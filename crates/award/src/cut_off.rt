@@ -1,84 +1,57 @@
-// The two quotes that may be the cut-off, sought from the last row to the first. The best at which the offer is reached takes a pass over
-// the rows for each of them.
-ghost use Rattle.std.specs.Prelude.{◌≡◌, ◌≤◌, ◌&&◌, length, if◌then◌else◌, Some as Present, nat_le};
-ghost use Rattle.terms.specs.Sharing.{most_demands};
-ghost use Rattle.award.specs.Award.{earlier, demand, worst_within, best_reaching};
+// The two quotes that may be the cut-off. The best at which the offer is reached takes a pass over the rows for each of them.
+ghost use Rattle.std.specs.Prelude.{◌≡◌, Bool};
+ghost use Rattle.award.specs.Award.{earlier, foremost, worst_within, best_reaching};
+ghost use Rattle.award.specs.Calls.{IsOrder, IsTest};
 ghost use Rattle.award.specs.Rows.{standing};
 
-use crate::demand::{demand_within, stands_within};
-use crate::row::Row;
+use crate::bids::Bids;
 use terms::quote::Quote;
 
-// The worse of two quotes.
-fn worse_of<Q: Quote>(quote: Q, other: Option<Q>) -> Q
-    ensures { result ≡ earlier (λ a b. Q.Quote.no_worse b a) quote other }
+// Of a quote and another that may be absent, the one that comes before the other.
+fn earlier<Q: Copy, B: Fn(Q, Q) -> bool>(before: B, quote: Q, other: Option<Q>) -> Q
+    requires { B.IsAlwaysCallable before }
+    ensures { (order : Q → Q → Bool) → IsOrder (B.post before) order → result ≡ earlier order quote other }
 {
-    match other {
-        Some(other) => if other.no_worse(quote) { quote } else { other },
-        None => quote,
-    }
+    other.map_or(
+        quote,
+        |other| if before(quote, other) { quote } else { other },
+    )
 }
 
-// The better of two quotes.
-fn better_of<Q: Quote>(quote: Q, other: Option<Q>) -> Q
-    ensures { result ≡ earlier Q.Quote.no_worse quote other }
-{
-    match other {
-        Some(other) => if quote.no_worse(other) { quote } else { other },
-        None => quote,
-    }
-}
-
-// Whether a bid stands and the bids of its quote or better ask for at least the offer.
-fn reaches<Q: Quote>(rows: &[Row<Q>], row: Row<Q>, offer: u32) -> bool
-    requires { length rows.now ≤ most_demands }
-    ensures { result ≡ (row.standing && nat_le offer (demand Q.Quote.no_worse row.quote (standing rows.now))) }
-{
-    row.standing && demand_within(rows, row.quote) >= offer as u64
-}
-
-// The worst quote found, one row more: its quote counts where its bid stands within the limit.
-fn worst_with<Q: Quote>(row: Row<Q>, limit: Q, found: Option<Q>) -> Option<Q>
-    ensures { result ≡ (if row.standing && Q.Quote.no_worse row.quote limit then Present (earlier (λ a b. Q.Quote.no_worse b a) row.quote found) else found) }
-{
-    if stands_within(row, limit) {
-        Some(worse_of(row.quote, found))
-    } else {
+impl<'a, Q: Quote> Bids<'a, Q> {
+    // Of the standing bids' quotes that are such, the one that comes before all others, sought from the last row to the first.
+    fn foremost<B: Fn(Q, Q) -> bool, T: Fn(Q) -> bool>(&self, before: B, such: T) -> Option<Q>
+        requires order { B.IsAlwaysCallable before }
+        requires test { T.IsAlwaysCallable such }
+        ensures { (order : Q → Q → Bool) (test : Q → Bool) → IsOrder (B.post before) order → IsTest (T.post such) test
+            → result ≡ foremost order test (standing self.now.rows.now) }
+    {
+        let mut found = None;
+        for row in self.rows.iter().rev() {
+            if row.stands_where(&such) {
+                found = Some(earlier(&before, row.quote, found));
+            }
+        }
         found
     }
-}
 
-// The best quote found, one row more: its quote counts where its bid stands and the offer is reached there.
-fn best_with<Q: Quote>(rows: &[Row<Q>], row: Row<Q>, offer: u32, found: Option<Q>) -> Option<Q>
-    requires { length rows.now ≤ most_demands }
-    ensures { result ≡ (if row.standing && nat_le offer (demand Q.Quote.no_worse row.quote (standing rows.now)) then Present (earlier Q.Quote.no_worse row.quote found) else found) }
-{
-    if reaches(rows, row, offer) {
-        Some(better_of(row.quote, found))
-    } else {
-        found
+    // The worst quote within a limit.
+    pub(crate) fn worst_within(&self, limit: Q) -> Option<Q>
+        ensures { result ≡ worst_within Q.Quote.no_worse limit (standing self.now.rows.now) }
+    {
+        self.foremost(
+            |quote, other| other.no_worse(quote),
+            |quote| quote.no_worse(limit),
+        )
     }
-}
 
-// The worst quote within a limit.
-pub(crate) fn worst_within<Q: Quote>(rows: &[Row<Q>], limit: Q) -> Option<Q>
-    ensures { result ≡ worst_within Q.Quote.no_worse limit (standing rows.now) }
-{
-    let mut worst = None;
-    for i in (0..rows.len()).rev() {
-        worst = worst_with(rows[i], limit, worst);
+    // The best quote at which the bids of that quote or better ask for at least the offer.
+    pub(crate) fn best_reaching(&self, offer: u32) -> Option<Q>
+        ensures { result ≡ best_reaching Q.Quote.no_worse offer (standing self.now.rows.now) }
+    {
+        self.foremost(
+            |quote, other| quote.no_worse(other),
+            |quote| self.demand_within(quote) >= offer as u64,
+        )
     }
-    worst
-}
-
-// The best quote at which the bids of that quote or better ask for at least the offer.
-pub(crate) fn best_reaching<Q: Quote>(rows: &[Row<Q>], offer: u32) -> Option<Q>
-    requires { length rows.now ≤ most_demands }
-    ensures { result ≡ best_reaching Q.Quote.no_worse offer (standing rows.now) }
-{
-    let mut best = None;
-    for i in (0..rows.len()).rev() {
-        best = best_with(rows, rows[i], offer, best);
-    }
-    best
 }

@@ -5,7 +5,7 @@ ghost use Rattle.award.specs.Faults.{award_fault_number};
 #[derive(Clone, Copy, PartialEq, Eq, Debug)]
 pub enum AwardFault {
     // A work table has fewer places than there are rows.
-    ShortTable,
+    ShortTable = 16,
 }
 
 impl AwardFault {
@@ -13,8 +13,6 @@ impl AwardFault {
     pub fn number(self) -> u8
         ensures { result ≡ award_fault_number self }
     {
-        match self {
-            AwardFault::ShortTable => 16,
-        }
+        self as u8
     }
 }

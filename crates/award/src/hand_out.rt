@@ -5,7 +5,7 @@ ghost use Rattle.award.specs.Award.{same, demands_at, in_full, dealt, shares_of,
 ghost use Rattle.award.specs.Rows.{standing, by_row};
 ghost use Rattle.award.specs.Handing.{Divisible, Ready};
 
-use crate::demand::{lots_better, lots_within, stands_within};
+use crate::quotes::better;
 use crate::reckoning::Reckoning;
 use crate::row::Row;
 use terms::quote::Quote;
@@ -16,49 +16,31 @@ fn serve_none<Q: Quote>(rows: &[Row<Q>], lots: &mut [u32])
     requires { length rows.now ≤ length lots.old }
     ensures { lots.new ≡ laid (by_row rows.now (map (λ b. 0) (standing rows.now))) lots.old }
 {
-    for i in 0..rows.len() {
-        lots[i] = 0;
-    }
+    lots[..rows.len()].fill(0);
 }
 
-// Each bid within the limit gets all its lots.
+// Each bid within the limit gets all its lots. (By place, here and in `deal`: a zip with `iter_mut` leaves the table's elements unknown.)
 fn serve<Q: Quote>(rows: &[Row<Q>], limit: Q, lots: &mut [u32])
     requires { length rows.now ≤ length lots.old }
     ensures { lots.new ≡ laid (by_row rows.now (in_full Q.Quote.no_worse limit (standing rows.now))) lots.old }
 {
-    for i in 0..rows.len() {
-        lots[i] = lots_within(rows[i], limit);
+    for (i, row) in rows.iter().enumerate() {
+        lots[i] = row.lots_where(|quote| quote.no_worse(limit));
     }
 }
 
-// Whether a bid stands at the cut-off.
-fn at_cut<Q: Quote>(row: Row<Q>, cut: Q) -> bool
-    ensures { result ≡ (row.standing && same Q.Quote.no_worse row.quote cut) }
-{
-    stands_within(row, cut) && cut.no_worse(row.quote)
-}
-
-// Puts a demand at a place of the table, and answers the next place.
-fn put(demands: &mut [u32], place: usize, lots: u32) -> usize
-    requires { place < length demands.old }
-    ensures place { result ≡ place + 1 }
-    ensures table { demands.new ≡ slice_set demands.old place lots }
-{
-    demands[place] = lots;
-    place + 1
-}
-
-// Gathers the demands at the cut-off in arrival order, and answers how many there are.
+// Gathers the demands at the cut-off in arrival order, and answers how many there are. (The count is the answer as well as the next place,
+// so to filter and enumerate the rows would only count them twice.)
 fn gather<Q: Quote>(rows: &[Row<Q>], cut: Q, demands: &mut [u32]) -> usize
     requires { length rows.now ≤ length demands.old }
     ensures count { result ≡ length (demands_at Q.Quote.no_worse cut (standing rows.now)) }
     ensures table { demands.new ≡ laid (demands_at Q.Quote.no_worse cut (standing rows.now)) demands.old }
 {
     let mut count = 0;
-    for i in 0..rows.len() {
-        let row = rows[i];
-        if at_cut(row, cut) {
-            count = put(demands, count, row.lots);
+    for row in rows {
+        if row.stands_at(cut) {
+            demands[count] = row.lots;
+            count += 1;
         }
     }
     count
@@ -93,19 +75,16 @@ fn divide<Q: Quote, R: SharingRule>(
 
 // Better bids get all their lots, those at the cut-off the shares in turn, and the others nothing.
 fn deal<Q: Quote>(rows: &[Row<Q>], cut: Q, shares: &[u32], lots: &mut [u32])
-    requires shares { length rows.now ≤ length shares.now }
-    requires places { length rows.now ≤ length lots.old }
+    requires { length rows.now ≤ length lots.old }
     ensures { lots.new ≡ laid (by_row rows.now (dealt Q.Quote.no_worse cut (standing rows.now) shares.now)) lots.old }
 {
-    let mut next = 0;
-    for i in 0..rows.len() {
-        let row = rows[i];
-        if at_cut(row, cut) {
-            lots[i] = shares[next];
-            next += 1;
+    let mut left = shares.iter();
+    for (i, row) in rows.iter().enumerate() {
+        lots[i] = if row.stands_at(cut) {
+            left.next().copied().unwrap_or(0)
         } else {
-            lots[i] = lots_better(row, cut);
-        }
+            row.lots_where(|quote| better(quote, cut))
+        };
     }
 }
 

@@ -11,6 +11,7 @@ pub mod demand;
 pub mod fault;
 pub mod hand_out;
 pub mod law;
+mod quotes;
 pub mod reckon;
 pub mod reckoning;
 pub mod row;

@@ -1,6 +1,11 @@
 // A row of a book.
-ghost use Rattle.std.specs.Prelude.{◌≡◌};
-ghost use Rattle.award.specs.Rows.{with_lots};
+ghost use Rattle.std.specs.Prelude.{◌≡◌, Bool, ◌&&◌};
+ghost use Rattle.award.specs.Award.{same};
+ghost use Rattle.award.specs.Calls.{IsTest};
+ghost use Rattle.award.specs.Rows.{counted, with_lots};
+
+use crate::quotes::same;
+use terms::quote::Quote;
 
 // One bid. Rows stand in the order of their bids' arrival; a withdrawn bid keeps its row and stands no more.
 #[derive(Clone, Copy)]
@@ -22,5 +27,34 @@ impl<Q: Copy> Row<Q> {
             allotted: lots,
             ..self
         }
+    }
+
+    // Whether the bid stands, at such a quote.
+    pub(crate) fn stands_where<T: Fn(Q) -> bool>(self, such: T) -> bool
+        requires { T.IsAlwaysCallable such }
+        ensures { (test : Q → Bool) → IsTest (T.post such) test → result ≡ (self.standing && test self.quote) }
+    {
+        self.standing && such(self.quote)
+    }
+
+    // The lots of a bid that stands at such a quote.
+    pub(crate) fn lots_where<T: Fn(Q) -> bool>(self, such: T) -> u32
+        requires { T.IsAlwaysCallable such }
+        ensures { (test : Q → Bool) → IsTest (T.post such) test → result ≡ counted test self }
+    {
+        if self.stands_where(such) {
+            self.lots
+        } else {
+            0
+        }
+    }
+}
+
+impl<Q: Quote> Row<Q> {
+    // Whether the bid stands at a cut-off.
+    pub(crate) fn stands_at(self, cut: Q) -> bool
+        ensures { result ≡ (self.standing && same Q.Quote.no_worse self.quote cut) }
+    {
+        self.standing && same(self.quote, cut)
     }
 }

@@ -32,10 +32,7 @@ fn bid<Q: Quote>(number: u32, lots: u32, quote: Q) -> Row<Q>
 
 // The number of a quote that may be absent.
 fn number_of<Q: Quote>(quote: Option<Q>) -> Option<i32> {
-    match quote {
-        Some(quote) => Some(quote.number()),
-        None => None,
-    }
+    quote.map(|quote| quote.number())
 }
 
 // An offer of 100 at rates, with the limit 620: 60 lots at 600, `middle` at 610 and 30 at 620.

@@ -1,14 +1,19 @@
-use Rattle.std.proofs.Common.{sym, ◌∙◌, arith}
-use Rattle.award.proofs.Allotting.{given_none, given_more, given_all}
+use Rattle.std.proofs.Common.{arith}
+use Rattle.std.proofs.lemmas.Grind.{common_steps}
+use Rattle.award.proofs.Allotting.{given_none}
 use Rattle.award.proofs.allot.allot.Goals as goal
-
-pub loop-i-init : goal.loop-i-init
-loop-i-init g c = sym (given_none c.args.rows.now)
+use Rattle.award.proofs.allot.allot.Goals.{in-Some, in_default}
 
 pub loop-i-preserved : goal.loop-i-preserved
 loop-i-preserved g c =
-    given_more c.args.rows.now c.args.lots.now c.loop-i.i c.index-rows-i.result c.with_lots.result c.loop-i.rows (omega arith) (omega arith)
-    c.loop-i.invariant c.index-rows-i.is c.with_lots.ensures
-
-pub returns : goal.returns
-returns g c = c.loop-i.invariant ∙ given_all c.args.rows.now c.args.lots.now c.loop-i.i (omega arith)
+    elim c.match-get.branch [
+      | in-Some w ↦ (
+          let e = w.in-Some.ensures.lookup.3.1 0 in
+          let lt = w.in-Some.ensures.lookup.3.0 in
+          grind (arith, common_steps)
+          )
+      | in_default w ↦ (
+          let le = w.in_default.ensures.lookup.3 in
+          grind (arith, common_steps, given_none)
+          )
+    ]

@@ -1,15 +1,10 @@
-use Rattle.std.proofs.Common.{arith}
-use Rattle.award.specs.Award.{in_full}
-use Rattle.award.proofs.Handing.{serving_more, serving_all, served_more}
+use Rattle.std.proofs.Common.{◌≡◌, arith, rules}
+use Rattle.std.proofs.lemmas.Grind.{common_steps}
+use Rattle.award.specs.Rows.{counted}
 use Rattle.award.proofs.hand_out.serve.Goals as goal
 
 pub loop-i-preserved : goal.loop-i-preserved
 loop-i-preserved g c =
     let no_worse = g.Q.Quote.no_worse in
-    serving_more (in_full no_worse c.args.limit) c.args.rows.now c.loop-i.i c.lots_within.result c.loop-i.lots c.args.lots.now (omega arith)
-    (served_more no_worse c.args.rows.now c.loop-i.i c.index-rows-i.result c.loop-i-test.true c.index-rows-i.is c.args.limit c.lots_within.result c.lots_within.ensures)
-    c.loop-i.invariant
-
-pub returns : goal.returns
-returns g c =
-    serving_all (in_full g.Q.Quote.no_worse c.args.limit) c.args.rows.now c.loop-i.i c.loop-i.lots c.args.lots.now (omega arith) c.loop-i.invariant
+    let h : c.lots_where.result ≡ counted (λ q. no_worse q c.args.limit) c.index-rows-i.result = c.lots_where.ensures (λ q. no_worse q c.args.limit) (λ q b k. search rules) in
+    grind (arith, common_steps)
