@@ -14,12 +14,13 @@ module _ {Q : Type 0} (number : Q → ℤ) (read : ℤ → Option Q) (no_worse :
     (b : Sheet Q) (o p : ℕ) (s : Result (Option Message) ReadFault) (m : Message) (seen : s ≡ Ok (Some m)) where
   pub answered_refused : (o' p' : ℕ) → o' ≡ o → p' ≡ p → (r : Result ℕ BookFault) (x : Located BookFault) (y : SessionFault)
       → r ≡ (put number read no_worse share one other b (event_of m)).1 → Err x ≡ located o' p' r
-      → y ≡ record { ordinal = x.ordinal; place = x.place; fault = lower.Book x.fault }
+      → (y.ordinal ≡ x.ordinal) × (y.place ≡ x.place) × (y.fault ≡ lower.Book x.fault)
       → Err y ≡ answer_by number read no_worse share one other b o p s
   answered_refused o' p' eo ep (Ok n) x y h e is = absurd (let z : ◌≡◌ {A = ℕ} 0 1 = cc in omega arith)
   answered_refused o' p' eo ep (Err f) x y h e is =
       let at : x ≡ record { ordinal = o; place = p; fault = f } = cc in
-      rw (seen, ← h, is, at) refl
+      let same : y ≡ record { ordinal = x.ordinal; place = x.place; fault = lower.Book x.fault } = rw (← is.0, ← is.1, ← is.2) refl in
+      rw (seen, ← h, same, at) refl
 
   pub book_seen : (after : Sheet Q) → after ≡ (put number read no_worse share one other b (event_of m)).0 → after ≡ book_by number read no_worse share one other b s
   book_seen after h = rw seen h

@@ -19,11 +19,12 @@ seen_some o p (Err f) m e = absurd (let z : ◌≡◌ {A = ℕ} 0 1 = cc in omeg
 
 module _ (kind rule o p : ℕ) (s : Result (Option Message) ReadFault) (m : Message) (seen : s ≡ Ok (Some m)) (o' p' : ℕ) (same_o : o' ≡ o) (same_p : p' ≡ p) where
   pub opened_refused : (r : Result (Unit {0}) NoticeFault) (x : Located NoticeFault) (y : SessionFault) → refused r ≡ against kind rule (fields_of m) → Err x ≡ located o' p' r
-      → y ≡ record { ordinal = x.ordinal; place = x.place; fault = lower.Notice x.fault } → Err y ≡ opened_by kind rule o p s
+      → (y.ordinal ≡ x.ordinal) × (y.place ≡ x.place) × (y.fault ≡ lower.Notice x.fault) → Err y ≡ opened_by kind rule o p s
   opened_refused (Ok u) x y h e is = absurd (let z : ◌≡◌ {A = ℕ} 0 1 = cc in omega arith)
   opened_refused (Err f) x y h e is =
       let at : x ≡ record { ordinal = o; place = p; fault = f } = cc in
-      rw (seen, ← h, is, at) refl
+      let same : y ≡ record { ordinal = x.ordinal; place = x.place; fault = lower.Notice x.fault } = rw (← is.0, ← is.1, ← is.2) refl in
+      rw (seen, ← h, same, at) refl
 
   pub opened_accepted : (r : Result (Unit {0}) NoticeFault) (u : Unit {0}) → refused r ≡ against kind rule (fields_of m) → Ok u ≡ located o' p' r
       → Ok (Some tt) ≡ opened_by kind rule o p s

@@ -5,3 +5,4 @@ pub mod Tables
 pub mod Attended
 pub mod Acts
 pub mod Prints
+pub mod Books

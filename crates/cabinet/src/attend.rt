@@ -1,28 +1,34 @@
 // A session from its first message to its last.
-ghost use Rattle.std.specs.Prelude.{◌≡◌, ◌≤◌, length, take};
-ghost use Rattle.book.specs.Views.{view};
+ghost use Rattle.std.specs.Prelude.{◌≡◌, ◌≤◌, [], length};
+ghost use Rattle.book.specs.Books.{Becomes};
 ghost use Rattle.cabinet.specs.Tables.{as_list};
-ghost use Rattle.cabinet.specs.Attended.{refusal_of, refusals_in, goes_past, goes_on, refusals_from, book_from};
+ghost use Rattle.cabinet.specs.Attended.{refusal_of, refusals_in, goes_past, goes_on};
+ghost use Rattle.cabinet.specs.Books.{refusals_on, sheet_after};
 
 use crate::fault::{LowerFault, SessionFault};
+use crate::listed::Listed;
 use crate::session::attend_one;
-use crate::table::append;
 use book::book::Book;
 use book::sale::Sale;
 use print::refusal::Refusal;
 use wire::reader::Reader;
 
 // The most messages that 65,536 bytes hold: the shortest has eight.
-pub(crate) const MOST_MESSAGES: usize = 8_192;
+const MOST_MESSAGES: usize = 8_192;
+
+// The refusals of a session.
+pub(crate) type Log = Listed<Refusal, MOST_MESSAGES>;
 
 // A refusal as it is printed.
-pub(crate) fn refusal_of(fault: SessionFault) -> Refusal
-    ensures { result ≡ refusal_of fault }
-{
-    Refusal {
-        ordinal: fault.ordinal,
-        number: fault.number(),
-        place: fault.place,
+impl From<SessionFault> for Refusal {
+    ghost from_gives = { λ f r. r ≡ refusal_of f };
+
+    fn from(fault: SessionFault) -> Refusal {
+        Refusal {
+            ordinal: fault.ordinal,
+            number: fault.number(),
+            place: fault.place,
+        }
     }
 }
 
@@ -30,10 +36,7 @@ pub(crate) fn refusal_of(fault: SessionFault) -> Refusal
 fn refusal_in(answer: Result<Option<u32>, SessionFault>) -> Option<Refusal>
     ensures { as_list result ≡ refusals_in answer }
 {
-    match answer {
-        Ok(_) => None,
-        Err(fault) => Some(refusal_of(fault)),
-    }
+    answer.err().map(Refusal::from)
 }
 
 // Whether the reading goes on after a refusal.
@@ -52,34 +55,30 @@ fn goes_on(answer: Result<Option<u32>, SessionFault>) -> bool
     ensures { result ≡ goes_on answer }
 {
     match answer {
-        Ok(None) => false,
-        Ok(Some(_)) => true,
+        Ok(number) => number.is_some(),
         Err(fault) => goes_past(fault.fault),
     }
 }
 
-// Reads the messages that are left, at most 8,192, and puts each to the book; a refusal by the reader stops the reading. The refusals then stand at the
-// front of the log, and their count is told.
+// Reads the messages that are left, at most 8,192, and puts each to the book; a refusal by the reader stops the reading. The refusals then stand
+// in the log.
 pub(crate) fn attend<S: Sale>(
     reader: &mut Reader<'_>,
     book: &mut Book<'_, S>,
     demands: &mut [u32],
     shares: &mut [u32],
-    log: &mut [Refusal],
-) -> usize
-    requires { 8_192 ≤ length log.old }
-    ensures few { result ≤ 8_192 }
-    ensures refusals { take result log.new ≡ refusals_from S.Quote.Quote.number S.Quote.Quote.read S.Quote.Quote.no_worse S.Rule.SharingRule.meaning (length demands.old) (length shares.old) reader.old.bytes.now 8_192 (view book.old) reader.old.passed reader.old.place }
-    ensures after { view book.new ≡ book_from S.Quote.Quote.number S.Quote.Quote.read S.Quote.Quote.no_worse S.Rule.SharingRule.meaning (length demands.old) (length shares.old) reader.old.bytes.now 8_192 (view book.old) reader.old.passed reader.old.place }
-    ensures same { book.new.rows.ghost_name ≡ book.old.rows.ghost_name }
+    log: &mut Log,
+)
+    requires { log.old ≡ [] }
+    ensures few { length log.new ≤ 8_192 }
+    ensures refusals { log.new ≡ refusals_on book.old (length demands.old) (length shares.old) reader.old }
+    ensures book { Becomes book.old book.new (sheet_after book.old (length demands.old) (length shares.old) reader.old) }
 {
-    let mut used = 0;
     for turn in 0..MOST_MESSAGES {
         let answer = attend_one(reader, book, demands, shares);
-        used = append(log, used, refusal_in(answer));
+        log.append(refusal_in(answer));
         if !goes_on(answer) {
-            return used;
+            return;
         }
     }
-    used
 }

@@ -4,10 +4,10 @@
 pub mod act;
 mod attend;
 pub mod fault;
+mod listed;
 pub mod located;
 pub mod notice;
 mod reading;
 mod sale;
 pub mod session;
-mod table;
 pub mod whole;

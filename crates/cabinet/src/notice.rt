@@ -7,21 +7,22 @@ ghost use Rattle.cabinet.specs.Sessions.{fields_of, against, opened_by, noted_fi
 
 use crate::fault::SessionFault;
 use crate::located::locate;
-use crate::reading::read_notice;
+use crate::reading::read;
 use terms::check::check_notice;
 use terms::checked::CheckedNotice;
 use terms::fault::NoticeFault;
 use terms::notice::{Notice, NoticeFields};
 use terms::quote::Quote;
 use terms::sharing::SharingRule;
+use wire::call::Call;
 use wire::message::Message;
 use wire::reader::Reader;
 
-// The fields of a notice message.
+// The fields of a notice message. (A function: neither the message nor the fields are of this crate, so that `TryFrom` cannot be written here.)
 pub(crate) fn fields_of(message: &Message) -> Option<NoticeFields>
     ensures { result ≡ fields_of message.now }
 {
-    match message {
+    match *message {
         Message::Notice {
             quote_code,
             sharing_code,
@@ -35,23 +36,23 @@ pub(crate) fn fields_of(message: &Message) -> Option<NoticeFields>
             s7,
             offer,
             minimum,
-            placement,
-            least,
+            placement: least_placement,
+            least: least_number,
             opening,
             closing,
         } => {
             let notice = Notice {
-                series: [*s0, *s1, *s2, *s3, *s4, *s5, *s6, *s7],
-                offer: *offer,
-                minimum: *minimum,
-                least_placement: *placement,
-                least_number: *least,
-                opening: *opening,
-                closing: *closing,
+                series: [s0, s1, s2, s3, s4, s5, s6, s7],
+                offer,
+                minimum,
+                least_placement,
+                least_number,
+                opening,
+                closing,
             };
             Some(NoticeFields {
-                quote_code: *quote_code,
-                sharing_code: *sharing_code,
+                quote_code,
+                sharing_code,
                 notice,
             })
         }
@@ -64,8 +65,8 @@ fn check_message<Q: Quote, R: SharingRule>(
     message: &Message,
     place: &mut CheckedNotice,
 ) -> Result<(), NoticeFault>
-    ensures refused { refused result ≡ against Q.Quote.code R.SharingRule.code (fields_of message.now) }
-    ensures place { place.new.notice ≡ noted_fields Q.Quote.code R.SharingRule.code (fields_of message.now) place.old.notice }
+    ensures refused { refused result ≡ against Q.Quote.CODE R.SharingRule.CODE (fields_of message.now) }
+    ensures place { place.new.notice ≡ noted_fields Q.Quote.CODE R.SharingRule.CODE (fields_of message.now) place.old.notice }
 {
     match fields_of(message) {
         Some(fields) => check_notice::<Q, R>(&fields, place),
@@ -79,13 +80,13 @@ pub fn open_notice<Q: Quote, R: SharingRule>(
     reader: &mut Reader<'_>,
     place: &mut CheckedNotice,
 ) -> Result<Option<()>, SessionFault>
-    ensures result { result ≡ opened_by Q.Quote.code R.SharingRule.code reader.old.passed reader.old.place (seen_by Opening reader.old) }
-    ensures place { place.new.notice ≡ noted_by Q.Quote.code R.SharingRule.code (seen_by Opening reader.old) place.old.notice }
+    ensures result { result ≡ opened_by Q.Quote.CODE R.SharingRule.CODE reader.old.passed reader.old.place (seen_by Opening reader.old) }
+    ensures place { place.new.notice ≡ noted_by Q.Quote.CODE R.SharingRule.CODE (seen_by Opening reader.old) place.old.notice }
     ensures reader { Passes Opening reader.old reader.new }
 {
     let ordinal = reader.passed();
     let at = reader.place();
-    let Some(message) = read_notice(reader)? else {
+    let Some(message) = read(reader, Call::Opening)? else {
         return Ok(None);
     };
     locate(ordinal, at, check_message::<Q, R>(&message, place))?;

@@ -8,7 +8,7 @@ ghost use Rattle.print.specs.Lines.{no_act_line};
 ghost use Rattle.cabinet.specs.Prints.{without_act, blank_row, session_print, sale_print};
 
 use crate::act::write_with;
-use crate::attend::{MOST_MESSAGES, attend, refusal_of};
+use crate::attend::{Log, attend};
 use crate::fault::SessionFault;
 use crate::notice::open_notice;
 use award::row::Row;
@@ -53,19 +53,19 @@ fn print_session<Q: Quote, R: SharingRule + Drop>(
     rows: &mut [Row<Q>],
     space: &mut [u8],
 ) -> Result<usize, WriteFault>
-    ensures written { Writes (session_print Q.Quote.number Q.Quote.read Q.Quote.no_worse R.SharingRule.meaning Q.Quote.code R.SharingRule.code Q.Worded.word rows.old reader.old.bytes.now notice.notice reader.old.passed reader.old.place) space.old space.new result }
-    ensures enough { length Q.Worded.word ≤ 8 → Suffices (length space.old) result }
+    ensures written { Writes (session_print Q.Quote.number Q.Quote.read Q.Quote.no_worse R.SharingRule.meaning Q.Quote.CODE R.SharingRule.CODE Q.Quote.word rows.old reader.old.bytes.now notice.notice reader.old.passed reader.old.place) space.old space.new result }
+    ensures enough { length Q.Quote.word ≤ 8 → Suffices (length space.old) result }
 {
     let mut demands = [0; ROWS];
     let mut shares = [0; ROWS];
-    let mut log = [Refusal {
+    let mut log = Log::new(Refusal {
         ordinal: 0,
         number: 0,
         place: 0,
-    }; MOST_MESSAGES];
+    });
     let mut book: Book<'_, (Q, R)> = Book::open(notice, rows);
-    let count = attend(reader, &mut book, &mut demands, &mut shares, &mut log);
-    write_with(&log[0..count], &book, space)
+    attend(reader, &mut book, &mut demands, &mut shares, &mut log);
+    write_with(log.as_slice(), &book, space)
 }
 
 // The print of the sale whose notice and session these bytes are, in a book over these rows.
@@ -74,14 +74,14 @@ pub(crate) fn print_sale<Q: Quote, R: SharingRule + Drop>(
     rows: &mut [Row<Q>],
     space: &mut [u8],
 ) -> Result<usize, WriteFault>
-    ensures written { Writes (sale_print Q.Quote.number Q.Quote.read Q.Quote.no_worse R.SharingRule.meaning Q.Quote.code R.SharingRule.code Q.Worded.word rows.old bytes.now) space.old space.new result }
-    ensures enough { length Q.Worded.word ≤ 8 → Suffices (length space.old) result }
+    ensures written { Writes (sale_print Q.Quote.number Q.Quote.read Q.Quote.no_worse R.SharingRule.meaning Q.Quote.CODE R.SharingRule.CODE Q.Quote.word rows.old bytes.now) space.old space.new result }
+    ensures enough { length Q.Quote.word ≤ 8 → Suffices (length space.old) result }
 {
     let mut notice = CheckedNotice::first();
     let mut reader = Reader::new(bytes);
     match open_notice::<Q, R>(&mut reader, &mut notice) {
         Ok(Some(())) => print_session::<Q, R>(&mut reader, notice, rows, space),
         Ok(None) => write_no_act(space),
-        Err(fault) => write_refused(refusal_of(fault), space),
+        Err(fault) => write_refused(fault.into(), space),
     }
 }

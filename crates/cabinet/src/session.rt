@@ -1,25 +1,27 @@
 // The session call: one message is read and put to the book.
 ghost use Rattle.std.specs.Prelude.{◌≡◌, false, length};
 ghost use Rattle.wire.specs.declared.call.Call.TheVariants.{Session};
-ghost use Rattle.book.specs.Views.{view};
-ghost use Rattle.cabinet.specs.Readings.{seen_by, Passes};
-ghost use Rattle.cabinet.specs.Sessions.{event_of, put, message_writes, book_by, answer_by, session_writes};
+ghost use Rattle.book.specs.Books.{Becomes};
+ghost use Rattle.cabinet.specs.Readings.{Passes};
+ghost use Rattle.cabinet.specs.Sessions.{event_of, message_writes};
+ghost use Rattle.cabinet.specs.Books.{put_on, answer_on, sheet_on, writes_on};
 
 use crate::fault::SessionFault;
 use crate::located::locate;
-use crate::reading::read_event;
+use crate::reading::read;
 use book::book::Book;
 use book::event::Event;
 use book::fault::BookFault;
 use book::sale::Sale;
+use wire::call::Call;
 use wire::message::Message;
 use wire::reader::Reader;
 
-// The event of a message of a session.
+// The event of a message of a session. (A function: neither the message nor the event is of this crate, so that `TryFrom` cannot be written here.)
 fn event_of(message: &Message) -> Option<Event>
     ensures { result ≡ event_of message.now }
 {
-    match message {
+    match *message {
         Message::Notice { .. } => None,
         Message::Entry {
             s0,
@@ -34,44 +36,37 @@ fn event_of(message: &Message) -> Option<Event>
             second,
             quote,
             lots,
-        } => {
-            let series = [*s0, *s1, *s2, *s3, *s4, *s5, *s6, *s7];
-            Some(Event::Entry {
-                series,
-                house: *house,
-                second: *second,
-                quote: *quote,
-                lots: *lots,
-            })
-        }
+        } => Some(Event::Entry {
+            series: [s0, s1, s2, s3, s4, s5, s6, s7],
+            house,
+            second,
+            quote,
+            lots,
+        }),
         Message::Change {
             number,
             house,
             second,
             quote,
             lots,
-        } => {
-            Some(Event::Change {
-                number: *number,
-                house: *house,
-                second: *second,
-                quote: *quote,
-                lots: *lots,
-            })
-        }
+        } => Some(Event::Change {
+            number,
+            house,
+            second,
+            quote,
+            lots,
+        }),
         Message::Withdrawal {
             number,
             house,
             second,
-        } => {
-            Some(Event::Withdrawal {
-                number: *number,
-                house: *house,
-                second: *second,
-            })
-        }
-        Message::Close { second } => Some(Event::Close { second: *second }),
-        Message::Limit { quote } => Some(Event::Limit { quote: *quote }),
+        } => Some(Event::Withdrawal {
+            number,
+            house,
+            second,
+        }),
+        Message::Close { second } => Some(Event::Close { second }),
+        Message::Limit { quote } => Some(Event::Limit { quote }),
     }
 }
 
@@ -82,10 +77,9 @@ fn put_message<S: Sale>(
     demands: &mut [u32],
     shares: &mut [u32],
 ) -> Result<u32, BookFault>
-    ensures result { result ≡ (put S.Quote.Quote.number S.Quote.Quote.read S.Quote.Quote.no_worse S.Rule.SharingRule.meaning (length demands.old) (length shares.old) (view book.old) (event_of message.now)).1 }
-    ensures after { view book.new ≡ (put S.Quote.Quote.number S.Quote.Quote.read S.Quote.Quote.no_worse S.Rule.SharingRule.meaning (length demands.old) (length shares.old) (view book.old) (event_of message.now)).0 }
+    ensures result { result ≡ (put_on book.old (length demands.old) (length shares.old) (event_of message.now)).1 }
+    ensures book { Becomes book.old book.new (put_on book.old (length demands.old) (length shares.old) (event_of message.now)).0 }
     ensures tables { message_writes message.now result ≡ false → (demands.new ≡ demands.old) × (shares.new ≡ shares.old) }
-    ensures same { book.new.rows.ghost_name ≡ book.old.rows.ghost_name }
 {
     match event_of(message) {
         Some(event) => book.take(event, demands, shares),
@@ -101,15 +95,14 @@ pub fn attend_one<S: Sale>(
     demands: &mut [u32],
     shares: &mut [u32],
 ) -> Result<Option<u32>, SessionFault>
-    ensures result { result ≡ answer_by S.Quote.Quote.number S.Quote.Quote.read S.Quote.Quote.no_worse S.Rule.SharingRule.meaning (length demands.old) (length shares.old) (view book.old) reader.old.passed reader.old.place (seen_by Session reader.old) }
-    ensures after { view book.new ≡ book_by S.Quote.Quote.number S.Quote.Quote.read S.Quote.Quote.no_worse S.Rule.SharingRule.meaning (length demands.old) (length shares.old) (view book.old) (seen_by Session reader.old) }
+    ensures result { result ≡ answer_on book.old (length demands.old) (length shares.old) reader.old }
+    ensures book { Becomes book.old book.new (sheet_on book.old (length demands.old) (length shares.old) reader.old) }
     ensures reader { Passes Session reader.old reader.new }
-    ensures tables { session_writes S.Quote.Quote.number S.Quote.Quote.read S.Quote.Quote.no_worse S.Rule.SharingRule.meaning (length demands.old) (length shares.old) (view book.old) (seen_by Session reader.old) ≡ false → (demands.new ≡ demands.old) × (shares.new ≡ shares.old) }
-    ensures same { book.new.rows.ghost_name ≡ book.old.rows.ghost_name }
+    ensures tables { writes_on book.old (length demands.old) (length shares.old) reader.old ≡ false → (demands.new ≡ demands.old) × (shares.new ≡ shares.old) }
 {
     let ordinal = reader.passed();
     let place = reader.place();
-    let Some(message) = read_event(reader)? else {
+    let Some(message) = read(reader, Call::Session)? else {
         return Ok(None);
     };
     let answer = locate(ordinal, place, put_message(book, &message, demands, shares))?;

@@ -4,11 +4,9 @@ ghost use Rattle.cabinet.specs.Tables.{Suffices};
 ghost use Rattle.wire.specs.declared.call.Call.TheVariants.{Opening};
 ghost use Rattle.wire.specs.Reading.{reading};
 ghost use Rattle.wire.specs.Writes.{Writes};
-ghost use Rattle.cabinet.specs.Sessions.{read_refusal};
 ghost use Rattle.cabinet.specs.Attended.{refusal_of};
-ghost use Rattle.cabinet.specs.Prints.{lowest_rate, lowest_price, rate_print, price_print, print_by, print_fields, print_seen, most_input, print_of};
+ghost use Rattle.cabinet.specs.Prints.{rate_print, price_print, print_by, print_fields, print_seen, most_input, print_of};
 
-use crate::attend::refusal_of;
 use crate::fault::{LowerFault, SessionFault};
 use crate::notice::fields_of;
 use crate::sale::{ROWS, blank, print_sale, write_refused};
@@ -22,53 +20,43 @@ use terms::pro_rata::ProRata;
 use terms::quote::Quote;
 use terms::rate::Rate;
 use terms::sharing::SharingRule;
-use wire::fault::{ReadFault, WriteFault};
+use wire::fault::WriteFault;
 use wire::reader::Reader;
 
 // The most bytes of an input that are read.
 const MOST_INPUT: usize = 65_536;
 
+// The codes of the kinds and of the rules.
+const RATE: u8 = Rate::CODE;
+
+const PRICE: u8 = Price::CODE;
+
+const PRO_RATA: u8 = ProRata::CODE;
+
+const ARRIVAL: u8 = InArrivalOrder::CODE;
+
 // The bytes of an input that are read.
 fn front(input: &[u8]) -> &[u8]
     ensures { result.now ≡ take most_input input.now }
 {
-    if input.len() <= MOST_INPUT {
-        input
-    } else {
-        &input[0..MOST_INPUT]
-    }
+    &input[..MOST_INPUT.min(input.len())]
 }
 
-// A rate and a price for blank rows.
-fn lowest_rate() -> Rate
-    ensures { result ≡ lowest_rate }
-{
-    Rate::lowest()
-}
-
-fn lowest_price() -> Price
-    ensures { result ≡ lowest_price }
-{
-    Price::lowest()
-}
-
-// The print of a sale at rates.
+// The print of a sale at rates. (One function for every kind could not be proved: nothing bounds the size of a type parameter, so that its rows need not fit the memory.)
 fn print_rates<R: SharingRule + Drop>(bytes: &[u8], space: &mut [u8]) -> Result<usize, WriteFault>
-    ensures written { Writes (rate_print R.SharingRule.meaning R.SharingRule.code bytes.now) space.old space.new result }
+    ensures written { Writes (rate_print R.SharingRule.meaning R.SharingRule.CODE bytes.now) space.old space.new result }
     ensures enough { Suffices (length space.old) result }
 {
-    let row = blank(lowest_rate());
-    let mut rows = [row; ROWS];
+    let mut rows = [blank(Rate::lowest()); ROWS];
     print_sale::<Rate, R>(bytes, &mut rows, space)
 }
 
 // The print of a sale at prices.
 fn print_prices<R: SharingRule + Drop>(bytes: &[u8], space: &mut [u8]) -> Result<usize, WriteFault>
-    ensures written { Writes (price_print R.SharingRule.meaning R.SharingRule.code bytes.now) space.old space.new result }
+    ensures written { Writes (price_print R.SharingRule.meaning R.SharingRule.CODE bytes.now) space.old space.new result }
     ensures enough { Suffices (length space.old) result }
 {
-    let row = blank(lowest_price());
-    let mut rows = [row; ROWS];
+    let mut rows = [blank(Price::lowest()); ROWS];
     print_sale::<Price, R>(bytes, &mut rows, space)
 }
 
@@ -78,18 +66,11 @@ fn print_by(bytes: &[u8], kind: u8, rule: u8, space: &mut [u8]) -> Result<usize,
     ensures enough { Suffices (length space.old) result }
 {
     match (kind, rule) {
-        (1, 1) => print_rates::<ProRata>(bytes, space),
-        (1, 2) => print_rates::<InArrivalOrder>(bytes, space),
-        (2, 1) => print_prices::<ProRata>(bytes, space),
-        (2, 2) => print_prices::<InArrivalOrder>(bytes, space),
-        _ => write_refused(
-            refusal_of(SessionFault {
-                ordinal: 0,
-                place: 0,
-                fault: LowerFault::Notice(NoticeFault::AgainstRules),
-            }),
-            space,
-        ),
+        (RATE, PRO_RATA) => print_rates::<ProRata>(bytes, space),
+        (RATE, ARRIVAL) => print_rates::<InArrivalOrder>(bytes, space),
+        (PRICE, PRO_RATA) => print_prices::<ProRata>(bytes, space),
+        (PRICE, ARRIVAL) => print_prices::<InArrivalOrder>(bytes, space),
+        _ => write_refused(at_the_first(0, NoticeFault::AgainstRules.into()), space),
     }
 }
 
@@ -117,19 +98,20 @@ fn print_bytes(bytes: &[u8], space: &mut [u8]) -> Result<usize, WriteFault>
     match reader.notice() {
         Ok(Some(message)) => print_fields(bytes, fields_of(&message), space),
         Ok(None) => write_no_act(space),
-        Err(fault) => write_refused(read_refusal(fault), space),
+        Err(fault) => write_refused(at_the_first(fault.offset(), fault.into()), space),
     }
 }
 
-// The reader's refusal of the first message.
-fn read_refusal(fault: ReadFault) -> Refusal
-    ensures { result ≡ refusal_of (read_refusal 0 0 fault) }
+// The refusal of the first message, for a fault at a place.
+fn at_the_first(place: usize, fault: LowerFault) -> Refusal
+    ensures { result ≡ refusal_of (record { ordinal = 0; place = place; fault = fault }) }
 {
-    refusal_of(SessionFault {
+    let fault = SessionFault {
         ordinal: 0,
-        place: fault.offset(),
-        fault: LowerFault::Read(fault),
-    })
+        place,
+        fault,
+    };
+    fault.into()
 }
 
 // The whole print of an input at the front of the space: of its first 65,536 bytes a line for each refusal, then the act, or that there is none. The count of the bytes is told,

@@ -1,4 +1,4 @@
-use Rattle.std.proofs.Common.{length, None, ap, arith, length-take, rules}
+use Rattle.std.proofs.Common.{length, None, ap, arith, rules}
 use Rattle.cabinet.proofs.Sufficing.{print_suffices}
 use Rattle.cabinet.proofs.act.write_with.Goals as goal
 
@@ -15,5 +15,5 @@ returns g c =
     record {
       written = search rules;
       enough = λ few short. c.write_act_with.ensures.enough few (omega (arith, ap length c.word.ensures))
-          (simp length-take (omega (arith, c.fill_rows-count.ensures.few, c.args.book.now.few)));
+          (omega (arith, ap length c.as_slice.ensures, c.act_rows-rows.ensures.few, c.args.book.now.few));
     }

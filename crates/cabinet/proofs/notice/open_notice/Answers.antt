@@ -11,9 +11,9 @@ returns-in_err-locate g c =
     let seen = seen_some r.passed r.place (seen_by Opening r) c.in-Some.message (sym (ap Ok c.in-Some.is) ∙ c.in_ok-message.ensures.result) in
     let p = err_from_is_err_and c.from_residual-in_err-locate.result c.from_residual-in_err-locate.ensures.1 in
     record {
-      result = p.1 ∙ opened_refused g.Q.Quote.code g.R.SharingRule.code r.passed r.place (seen_by Opening r) c.in-Some.message seen c.passed-ordinal.result c.place-at.result c.passed-ordinal.ensures c.place-at.ensures c.check_message.result c.in_err-locate.field-0.0 p.0 c.check_message.ensures.refused c.in_err-locate.ensures p.2;
-      place = noted_seen g.Q.Quote.code g.R.SharingRule.code r.passed r.place (seen_by Opening r) c.in-Some.message seen c.passed-ordinal.result c.place-at.result c.passed-ordinal.ensures c.place-at.ensures _ _ c.check_message.ensures.place;
-      reader = c.read_notice.ensures.reader;
+      result = p.1 ∙ opened_refused g.Q.Quote.CODE g.R.SharingRule.CODE r.passed r.place (seen_by Opening r) c.in-Some.message seen c.passed-ordinal.result c.place-at.result c.passed-ordinal.ensures c.place-at.ensures c.check_message.result c.in_err-locate.field-0.0 p.0 c.check_message.ensures.refused c.in_err-locate.ensures p.2;
+      place = noted_seen g.Q.Quote.CODE g.R.SharingRule.CODE r.passed r.place (seen_by Opening r) c.in-Some.message seen c.passed-ordinal.result c.place-at.result c.passed-ordinal.ensures c.place-at.ensures _ _ c.check_message.ensures.place;
+      reader = c.read.ensures.reader;
     }
 
 pub returns : goal.returns
@@ -21,7 +21,7 @@ returns g c =
     let r = c.args.reader.now in
     let seen = seen_some r.passed r.place (seen_by Opening r) c.in-Some.message (sym (ap Ok c.in-Some.is) ∙ c.in_ok-message.ensures.result) in
     record {
-      result = opened_accepted g.Q.Quote.code g.R.SharingRule.code r.passed r.place (seen_by Opening r) c.in-Some.message seen c.passed-ordinal.result c.place-at.result c.passed-ordinal.ensures c.place-at.ensures c.check_message.result c.in_ok-locate.field-0 c.check_message.ensures.refused c.in_ok-locate.ensures;
-      place = noted_seen g.Q.Quote.code g.R.SharingRule.code r.passed r.place (seen_by Opening r) c.in-Some.message seen c.passed-ordinal.result c.place-at.result c.passed-ordinal.ensures c.place-at.ensures _ _ c.check_message.ensures.place;
-      reader = c.read_notice.ensures.reader;
+      result = opened_accepted g.Q.Quote.CODE g.R.SharingRule.CODE r.passed r.place (seen_by Opening r) c.in-Some.message seen c.passed-ordinal.result c.place-at.result c.passed-ordinal.ensures c.place-at.ensures c.check_message.result c.in_ok-locate.field-0 c.check_message.ensures.refused c.in_ok-locate.ensures;
+      place = noted_seen g.Q.Quote.CODE g.R.SharingRule.CODE r.passed r.place (seen_by Opening r) c.in-Some.message seen c.passed-ordinal.result c.place-at.result c.passed-ordinal.ensures c.place-at.ensures _ _ c.check_message.ensures.place;
+      reader = c.read.ensures.reader;
     }

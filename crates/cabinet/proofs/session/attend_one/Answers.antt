@@ -25,9 +25,11 @@ returns-in_err-answer g c =
           ∙ answered_refused n q w h one other b r.passed r.place (seen_by Session r) c.in-Some.message seen c.passed-ordinal.result c.place-place.result
           c.passed-ordinal.ensures c.place-place.ensures c.put_message.result c.in_err-answer.field-0.0 p.0 c.put_message.ensures.result
           c.in_err-answer.ensures p.2;
-      after = book_seen n q w h one other b r.passed r.place (seen_by Session r) c.in-Some.message seen _ c.put_message.ensures.after;
-      reader = c.read_event.ensures.reader;
+      book = record {
+        after = book_seen n q w h one other b r.passed r.place (seen_by Session r) c.in-Some.message seen _ c.put_message.ensures.book.after;
+        same = c.put_message.ensures.book.same;
+      };
+      reader = c.read.ensures.reader;
       tables = λ none. c.put_message.ensures.tables
           (writes_seen n q w h one other b r.passed r.place (seen_by Session r) c.in-Some.message seen c.put_message.result c.put_message.ensures.result none);
-      same = c.put_message.ensures.same;
     }
