@@ -27,13 +27,10 @@ no_ground true f h e = let z : ◌≡◌ {A = ℕ} 0 1 = cc in absurd (omega ari
 no_ground false f h e = refl
 
 module _ {Q : Type 0} (no_worse : Q → Q → Bool) (share : List ℕ → ℕ → List ℕ) (t : Terms) (s : Terms) (same : t ≡ s) (limit : Q)
-    (rows : List (Row Q)) (used : ℕ) (fit : used ≤ length rows) where
-  front : take (used - 0) rows ≡ take used rows
-  front = let whole : used - 0 ≡ used = omega arith in ap (λ n. take n rows) whole
-
+    (rows : List (Row Q)) (used : ℕ) (fit : used ≤ length rows) (bids : List (Row Q)) (front : bids ≡ take used rows) where
   -- an award that is not refused, by the rows in use
   pub reckoned_ok : (one other : ℕ) (cut : Option Q)
-      → ◌≡◌ {A = Result (Option Q) AwardFault} (Ok cut) (answered (first (award_grounds (length (take (used - 0) rows)) one other)) (cut_off no_worse t limit (standing (take (used - 0) rows))))
+      → ◌≡◌ {A = Result (Option Q) AwardFault} (Ok cut) (answered (first (award_grounds (length bids) one other)) (cut_off no_worse t limit (standing bids)))
       → (first (table_grounds used one other) ≡ None) × (cut ≡ cut_off no_worse s limit (standing (take used rows)))
   reckoned_ok one other cut e =
       let told = e ∙ ap (λ rs. answered (first (award_grounds (length rs) one other)) (cut_off no_worse t limit (standing rs))) front
@@ -43,10 +40,10 @@ module _ {Q : Type 0} (no_worse : Q → Q → Bool) (share : List ℕ → ℕ �
       (no_ground (ltb one used || ltb other used) _ _ p.0, p.1)
 
   -- its tables, by the rows in use
-  pub lots_in_use : (table : List ℕ) → laid (lots_by_row no_worse share t limit (take (used - 0) rows)) table ≡ laid (lots_by_row no_worse share s limit (take used rows)) table
+  pub lots_in_use : (table : List ℕ) → laid (lots_by_row no_worse share t limit bids) table ≡ laid (lots_by_row no_worse share s limit (take used rows)) table
   lots_in_use table = ap (λ rs. laid (lots_by_row no_worse share t limit rs) table) front ∙ ap (λ x. laid (lots_by_row no_worse share x limit (take used rows)) table) same
 
-  pub shares_in_use : (table : List ℕ) → laid (shares_at_cut no_worse share t limit (take (used - 0) rows)) table ≡ laid (shares_at_cut no_worse share s limit (take used rows)) table
+  pub shares_in_use : (table : List ℕ) → laid (shares_at_cut no_worse share t limit bids) table ≡ laid (shares_at_cut no_worse share s limit (take used rows)) table
   shares_in_use table = ap (λ rs. laid (shares_at_cut no_worse share t limit rs) table) front ∙ ap (λ x. laid (shares_at_cut no_worse share x limit (take used rows)) table) same
 
   -- the lots of the rows in use stand in front of the first table

@@ -108,9 +108,9 @@ module _ {Q : Type 0} (number : Q → ℤ) (read : ℤ → Option Q) (no_worse :
 
   -- what an accepted event makes of a book
   abbrev pub effect : Sheet Q → Event → Sheet Q
-  effect s (Entry series house second quote lots) = with_entry s house second lots (read quote)
-  effect s (Change number house second quote lots) = with_change s number house second lots (read quote)
-  effect s (Withdrawal number house second) = with_withdrawal s number second
+  effect s (Entry e) = with_entry s e.house e.second e.lots (read e.quote)
+  effect s (Change e) = with_change s e.number e.house e.second e.lots (read e.quote)
+  effect s (Withdrawal e) = with_withdrawal s e.number e.second
   effect s (Close second) = with_close s
   effect s (Limit quote) = with_limit s (read quote)
 
@@ -122,9 +122,9 @@ module _ {Q : Type 0} (number : Q → ℤ) (read : ℤ → Option Q) (no_worse :
 
 -- only an accepted limit writes into the work tables
 abbrev pub writes_tables : Event → Result ℕ BookFault → Bool
-writes_tables (Entry series house second quote lots) r = false
-writes_tables (Change number house second quote lots) r = false
-writes_tables (Withdrawal number house second) r = false
+writes_tables (Entry e) r = false
+writes_tables (Change e) r = false
+writes_tables (Withdrawal e) r = false
 writes_tables (Close second) r = false
 writes_tables (Limit quote) (Ok n) = true
 writes_tables (Limit quote) (Err f) = false

@@ -89,32 +89,32 @@ module _ {Q : Type 0} (read : ℤ → Option Q) (notice : Notice) (table : ℕ) 
 
   -- The table: the grounds against an event, in the order of their numbers; a limit comes with two work tables of so many places.
   abbrev pub grounds : Past Q → ℕ → ℕ → Event → List (Ground BookFault)
-  grounds p one other (Entry series house second quote lots) =
+  grounds p one other (Entry e) =
       when (not (takes_bids p.phase)) NotInThisState
-      ∷ when (not (bytes_eq series notice.series)) OtherSeries
-      ∷ when (not (between 1 house 9_999)) HouseOutOfRange
-      ∷ when (not (is_some (read quote))) QuoteOutOfRange
-      ∷ when (not (between notice.minimum lots notice.offer)) LotsOutOfRange
-      ∷ when (not (timely p second)) SecondOutOfRange
+      ∷ when (not (bytes_eq e.series notice.series)) OtherSeries
+      ∷ when (not (between 1 e.house 9_999)) HouseOutOfRange
+      ∷ when (not (is_some (read e.quote))) QuoteOutOfRange
+      ∷ when (not (between notice.minimum e.lots notice.offer)) LotsOutOfRange
+      ∷ when (not (timely p e.second)) SecondOutOfRange
       ∷ when (nat_le rows_there (rows_used p)) NoRowLeft
       ∷ when (nat_le 1_000_000 p.arrivals) NoPlaceLeft
       ∷ []
-  grounds p one other (Change number house second quote lots) =
+  grounds p one other (Change e) =
       when (not (takes_bids p.phase)) NotInThisState
-      ∷ when (not (between 1 house 9_999)) HouseOutOfRange
-      ∷ when (not (is_some (read quote))) QuoteOutOfRange
-      ∷ when (not (between notice.minimum lots notice.offer)) LotsOutOfRange
-      ∷ when (not (is_some (bid_of number p.standing))) NoSuchBid
-      ∷ when (not (is_of house (bid_of number p.standing))) OtherHouse
-      ∷ when (not (timely p second)) SecondOutOfRange
+      ∷ when (not (between 1 e.house 9_999)) HouseOutOfRange
+      ∷ when (not (is_some (read e.quote))) QuoteOutOfRange
+      ∷ when (not (between notice.minimum e.lots notice.offer)) LotsOutOfRange
+      ∷ when (not (is_some (bid_of e.number p.standing))) NoSuchBid
+      ∷ when (not (is_of e.house (bid_of e.number p.standing))) OtherHouse
+      ∷ when (not (timely p e.second)) SecondOutOfRange
       ∷ when (nat_le 1_000_000 p.arrivals) NoPlaceLeft
       ∷ []
-  grounds p one other (Withdrawal number house second) =
+  grounds p one other (Withdrawal e) =
       when (not (takes_bids p.phase)) NotInThisState
-      ∷ when (not (between 1 house 9_999)) HouseOutOfRange
-      ∷ when (not (is_some (bid_of number p.standing))) NoSuchBid
-      ∷ when (not (is_of house (bid_of number p.standing))) OtherHouse
-      ∷ when (not (timely p second)) SecondOutOfRange
+      ∷ when (not (between 1 e.house 9_999)) HouseOutOfRange
+      ∷ when (not (is_some (bid_of e.number p.standing))) NoSuchBid
+      ∷ when (not (is_of e.house (bid_of e.number p.standing))) OtherHouse
+      ∷ when (not (timely p e.second)) SecondOutOfRange
       ∷ []
   grounds p one other (Close second) =
       when (not (takes_bids p.phase)) NotInThisState
@@ -128,40 +128,40 @@ module _ {Q : Type 0} (read : ℤ → Option Q) (notice : Notice) (table : ℕ) 
 
   -- what an accepted event answers: an entry the bid's number, all others 0
   abbrev pub answer : Past Q → Event → ℕ
-  answer p (Entry series house second quote lots) = numbers_given p + 1
-  answer p (Change number house second quote lots) = 0
-  answer p (Withdrawal number house second) = 0
+  answer p (Entry e) = numbers_given p + 1
+  answer p (Change e) = 0
+  answer p (Withdrawal e) = 0
   answer p (Close second) = 0
   answer p (Limit quote) = 0
 
   -- What an accepted event makes of what came before. An entry puts a bid last, under the next number; a change puts its bid last, with the
   -- new quote and lots; a withdrawal removes its bid; all else leaves the standing bids.
   abbrev pub next : Past Q → Event → Past Q
-  next p (Entry series house second quote lots) =
+  next p (Entry e) =
       record {
         phase = p.phase;
-        standing = p.standing ++ one_bid (numbers_given p + 1) house lots (read quote);
+        standing = p.standing ++ one_bid (numbers_given p + 1) e.house e.lots (read e.quote);
         entered = p.entered + 1;
         arrivals = p.arrivals + 1;
-        last = second;
+        last = e.second;
         limit = p.limit;
       }
-  next p (Change number house second quote lots) =
+  next p (Change e) =
       record {
         phase = p.phase;
-        standing = without number p.standing ++ one_bid number house lots (read quote);
+        standing = without e.number p.standing ++ one_bid e.number e.house e.lots (read e.quote);
         entered = p.entered;
         arrivals = p.arrivals + 1;
-        last = second;
+        last = e.second;
         limit = p.limit;
       }
-  next p (Withdrawal number house second) =
+  next p (Withdrawal e) =
       record {
         phase = p.phase;
-        standing = without number p.standing;
+        standing = without e.number p.standing;
         entered = p.entered;
         arrivals = p.arrivals;
-        last = second;
+        last = e.second;
         limit = p.limit;
       }
   next p (Close second) =

@@ -1,7 +1,7 @@
 // Changes.
 ghost use Rattle.std.specs.Prelude.{◌≡◌, ◌+◌, ◌-◌, ◌<◌, true, length, Some as Present, slice_set};
 ghost use Rattle.terms.specs.Sharing.{demand_fits};
-ghost use Rattle.book.specs.declared.event.Event.TheVariants.{Change};
+ghost use Rattle.book.specs.declared.event.Event.TheVariants.{Change as Changed};
 ghost use Rattle.book.specs.Sheets.{in_use};
 ghost use Rattle.book.specs.Steps.{with_change};
 ghost use Rattle.book.specs.Places.{place_of, closing, on_rows};
@@ -10,6 +10,7 @@ ghost use Rattle.book.specs.Views.{view};
 ghost use Rattle.book.specs.Books.{Becomes, objection};
 
 use crate::book::Book;
+use crate::event::Change;
 use crate::fault::BookFault;
 use crate::range::is_house;
 use crate::sale::Sale;
@@ -25,25 +26,18 @@ pub(crate) struct Replacement<Q> {
 
 impl<'a, S: Sale> Book<'a, S> {
     // Judges a change in an open book.
-    pub(crate) fn judge_change(
-        &self,
-        number: u32,
-        house: u32,
-        second: u32,
-        quote: i32,
-        lots: u32,
-    ) -> Result<Replacement<S::Quote>, BookFault>
-        ensures { Judgement (objection self.now (Change number house second quote lots)) (λ c. (place_of number (in_use (view self.now)) ≡ Present c.at) × (S.Quote.Quote.read quote ≡ Present c.quote)) result }
+    pub(crate) fn judge_change(&self, change: Change) -> Result<Replacement<S::Quote>, BookFault>
+        ensures { Judgement (objection self.now (Changed change)) (λ c. (place_of change.number (in_use (view self.now)) ≡ Present c.at) × (S.Quote.Quote.read change.quote ≡ Present c.quote)) result }
     {
-        if !is_house(house) {
+        if !is_house(change.house) {
             return Err(BookFault::HouseOutOfRange);
         }
-        let quote = S::Quote::read(quote)?;
-        if !self.takes_lots(lots) {
+        let quote = S::Quote::read(change.quote)?;
+        if !self.takes_lots(change.lots) {
             return Err(BookFault::LotsOutOfRange);
         }
-        let at = self.judge_bid(number, house)?;
-        if !self.is_timely(second) {
+        let at = self.judge_bid(change.number, change.house)?;
+        if !self.is_timely(change.second) {
             return Err(BookFault::SecondOutOfRange);
         }
         if self.is_out_of_places() {
@@ -70,34 +64,26 @@ impl<'a, S: Sale> Book<'a, S> {
     }
 
     // Puts the changed bid of a row behind the last used row.
-    pub(crate) fn change_at(
-        &mut self,
-        at: usize,
-        number: u32,
-        house: u32,
-        second: u32,
-        quote: S::Quote,
-        lots: u32,
-    )
-        requires found { place_of number (in_use (view self.old)) ≡ Present at }
+    pub(crate) fn change_at(&mut self, change: Change, replacement: Replacement<S::Quote>)
+        requires found { place_of change.number (in_use (view self.old)) ≡ Present replacement.at }
         requires places { self.old.arrivals < 1_000_000 }
-        requires lots { demand_fits lots ≡ true }
-        ensures { Becomes self.old self.new (with_change (view self.old) number house second lots (Present quote)) }
+        requires lots { demand_fits change.lots ≡ true }
+        ensures { Becomes self.old self.new (with_change (view self.old) change.number change.house change.second change.lots (Present replacement.quote)) }
     {
         let last = (self.used - 1) as usize;
-        self.close_gap(at);
+        self.close_gap(replacement.at);
         self.put(
             last,
             Row {
-                number,
-                house,
-                quote,
-                lots,
+                number: change.number,
+                house: change.house,
+                quote: replacement.quote,
+                lots: change.lots,
                 standing: true,
                 allotted: 0,
             },
         );
         self.arrivals += 1;
-        self.last = second;
+        self.last = change.second;
     }
 }

@@ -2,11 +2,13 @@
 ghost use Rattle.std.specs.Prelude.{◌≡◌, ◌+◌, nat_le};
 ghost use Rattle.terms.specs.Tests.{between};
 ghost use Rattle.book.specs.Table.{rows_used, numbers_given};
+ghost use Rattle.book.specs.Sheets.{in_use};
 ghost use Rattle.book.specs.Views.{view};
 ghost use Rattle.book.specs.Books.{past, room, timely_in};
 
 use crate::book::Book;
 use crate::sale::Sale;
+use award::row::Row;
 use terms::notice::Notice;
 
 // The most rows that a book uses.
@@ -21,6 +23,13 @@ impl<'a, S: Sale> Book<'a, S> {
         ensures { result ≡ (view self.now).notice }
     {
         self.notice.notice()
+    }
+
+    // The used rows.
+    pub(crate) fn in_use(&self) -> &[Row<S::Quote>]
+        ensures { result.now ≡ in_use (view self.now) }
+    {
+        &self.rows[..self.used as usize]
     }
 
     // How many bids were entered, withdrawn ones too.

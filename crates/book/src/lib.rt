@@ -15,7 +15,6 @@ pub mod outcome;
 pub mod questions;
 pub mod range;
 pub mod sale;
-pub mod series;
 pub mod state;
 pub mod take;
 pub mod withdrawal;

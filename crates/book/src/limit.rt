@@ -55,7 +55,7 @@ impl<'a, S: Sale> Book<'a, S> {
         ensures shares { shares.new ≡ filled (refused result) (shares_by self.now limit) shares.old }
     {
         let bids = Bids {
-            rows: &self.rows[0..self.used as usize],
+            rows: self.in_use(),
         };
         let cut = award::<S::Quote, S::Rule>(bids, self.conditions(), limit, demands, shares)?;
         Ok(cut)

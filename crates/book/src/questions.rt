@@ -72,21 +72,21 @@ impl<'a, S: Sale> Book<'a, S> {
     pub fn count(&self) -> usize
         ensures { result ≡ sheet_count (view self.now) }
     {
-        standing_count(&self.rows[0..self.used as usize])
+        standing_count(self.in_use())
     }
 
     // The placed lots: the sum of the allotments.
     pub fn placed(&self) -> u64
         ensures { result ≡ sheet_placed (view self.now) }
     {
-        sum_allotted(&self.rows[0..self.used as usize])
+        sum_allotted(self.in_use())
     }
 
     // The row of a number, withdrawn or not.
     pub fn row(&self, number: u32) -> Option<Row<S::Quote>>
         ensures { result ≡ row_of number (in_use (view self.now)) }
     {
-        row_of(&self.rows[0..self.used as usize], number)
+        row_of(self.in_use(), number)
     }
 
     // Whether the award was made, or the act is void.

@@ -23,50 +23,18 @@ impl<'a, S: Sale> Book<'a, S> {
         ensures tables { writes_tables event result ≡ false → (demands.new ≡ demands.old) × (shares.new ≡ shares.old) }
     {
         match (self.state, event) {
-            (
-                State::Open,
-                Event::Entry {
-                    series,
-                    house,
-                    second,
-                    quote,
-                    lots,
-                },
-            ) => {
-                let quote = self.judge_entry(series, house, second, quote, lots)?;
-                Ok(self.enter(house, second, quote, lots))
+            (State::Open, Event::Entry(entry)) => {
+                let quote = self.judge_entry(entry)?;
+                Ok(self.enter(entry, quote))
             }
-            (
-                State::Open,
-                Event::Change {
-                    number,
-                    house,
-                    second,
-                    quote,
-                    lots,
-                },
-            ) => {
-                let replacement = self.judge_change(number, house, second, quote, lots)?;
-                self.change_at(
-                    replacement.at,
-                    number,
-                    house,
-                    second,
-                    replacement.quote,
-                    lots,
-                );
+            (State::Open, Event::Change(change)) => {
+                let replacement = self.judge_change(change)?;
+                self.change_at(change, replacement);
                 Ok(0)
             }
-            (
-                State::Open,
-                Event::Withdrawal {
-                    number,
-                    house,
-                    second,
-                },
-            ) => {
-                let at = self.judge_withdrawal(number, house, second)?;
-                self.withdraw_at(at, number, second);
+            (State::Open, Event::Withdrawal(withdrawal)) => {
+                let at = self.judge_withdrawal(withdrawal)?;
+                self.withdraw_at(withdrawal, at);
                 Ok(0)
             }
             (State::Open, Event::Close { second }) => {

@@ -2,7 +2,7 @@
 ghost use Rattle.std.specs.Prelude.{◌≡◌, Some as Present};
 ghost use Rattle.terms.specs.Grounds.{first};
 ghost use Rattle.award.specs.Rows.{standing};
-ghost use Rattle.book.specs.declared.event.Event.TheVariants.{Withdrawal};
+ghost use Rattle.book.specs.declared.event.Event.TheVariants.{Withdrawal as Withdrawn};
 ghost use Rattle.book.specs.Table.{bid_of};
 ghost use Rattle.book.specs.Sheets.{in_use};
 ghost use Rattle.book.specs.Steps.{with_withdrawal};
@@ -12,6 +12,7 @@ ghost use Rattle.book.specs.Views.{view};
 ghost use Rattle.book.specs.Books.{Becomes, objection};
 
 use crate::book::Book;
+use crate::event::Withdrawal;
 use crate::fault::BookFault;
 use crate::find::{find, row_at};
 use crate::range::is_house;
@@ -22,7 +23,7 @@ impl<'a, S: Sale> Book<'a, S> {
     fn place_of(&self, number: u32) -> Option<usize>
         ensures { result ≡ place_of number (in_use (view self.now)) }
     {
-        find(&self.rows[0..self.used as usize], number)
+        find(self.in_use(), number)
     }
 
     // Judges the naming of a bid by a house, and gives the place of its row.
@@ -40,30 +41,25 @@ impl<'a, S: Sale> Book<'a, S> {
     }
 
     // Judges a withdrawal in an open book, and gives the place of its bid's row.
-    pub(crate) fn judge_withdrawal(
-        &self,
-        number: u32,
-        house: u32,
-        second: u32,
-    ) -> Result<usize, BookFault>
-        ensures { Judgement (objection self.now (Withdrawal number house second)) (λ at. place_of number (in_use (view self.now)) ≡ Present at) result }
+    pub(crate) fn judge_withdrawal(&self, withdrawal: Withdrawal) -> Result<usize, BookFault>
+        ensures { Judgement (objection self.now (Withdrawn withdrawal)) (λ at. place_of withdrawal.number (in_use (view self.now)) ≡ Present at) result }
     {
-        if !is_house(house) {
+        if !is_house(withdrawal.house) {
             return Err(BookFault::HouseOutOfRange);
         }
-        let at = self.judge_bid(number, house)?;
-        if !self.is_timely(second) {
+        let at = self.judge_bid(withdrawal.number, withdrawal.house)?;
+        if !self.is_timely(withdrawal.second) {
             return Err(BookFault::SecondOutOfRange);
         }
         Ok(at)
     }
 
     // Marks the bid of a row as withdrawn.
-    pub(crate) fn withdraw_at(&mut self, at: usize, number: u32, second: u32)
-        requires { place_of number (in_use (view self.old)) ≡ Present at }
-        ensures { Becomes self.old self.new (with_withdrawal (view self.old) number second) }
+    pub(crate) fn withdraw_at(&mut self, withdrawal: Withdrawal, at: usize)
+        requires { place_of withdrawal.number (in_use (view self.old)) ≡ Present at }
+        ensures { Becomes self.old self.new (with_withdrawal (view self.old) withdrawal.number withdrawal.second) }
     {
         self.rows[at].standing = false;
-        self.last = second;
+        self.last = withdrawal.second;
     }
 }

@@ -74,10 +74,7 @@ fn award<S: Sale>(rt: &impl Abort, book: &mut Book<'_, S>, limit: i32) {
 
 // The number of the cut-off.
 fn cut_number<S: Sale>(book: &Book<'_, S>) -> Option<i32> {
-    match book.cut_off() {
-        Some(cut) => Some(cut.number()),
-        None => None,
-    }
+    book.cut_off().map(|cut| cut.number())
 }
 
 // An offer of 100 at rates, with the limit 620: 60 lots at 600, so many at 610 and 30 at 620. The cut-off, and the three allotments.

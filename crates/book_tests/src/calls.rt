@@ -2,7 +2,7 @@
 use crate::events;
 use award::row::Row;
 use book::book::Book;
-use book::event::Event;
+use book::event::{Change, Entry, Event, Withdrawal};
 use book::fault::BookFault;
 use std::process::Abort;
 use std::test::Fail;
@@ -11,20 +11,18 @@ use terms::pro_rata::ProRata;
 use terms::quote::Quote;
 use terms::rate::Rate;
 
-// A call, and the answer to it.
+// A call, and the answer to it, with the number of a refusal.
 #[derive(Clone, Copy)]
 struct Case {
     event: Event,
-    number: u32,
-    refusal: u8,
+    answer: Result<u32, u8>,
 }
 
 // A call that is answered with a number.
 fn takes(event: Event, number: u32) -> Case {
     Case {
         event,
-        number,
-        refusal: 0,
+        answer: Ok(number),
     }
 }
 
@@ -32,37 +30,36 @@ fn takes(event: Event, number: u32) -> Case {
 fn refuses(event: Event, refusal: u8) -> Case {
     Case {
         event,
-        number: 0,
-        refusal,
+        answer: Err(refusal),
     }
 }
 
 fn entry(series: [u8; 8], house: u32, second: u32, quote: i32, lots: u32) -> Event {
-    Event::Entry {
+    Event::Entry(Entry {
         series,
         house,
         second,
         quote,
         lots,
-    }
+    })
 }
 
 fn change(number: u32, house: u32, second: u32, quote: i32, lots: u32) -> Event {
-    Event::Change {
+    Event::Change(Change {
         number,
         house,
         second,
         quote,
         lots,
-    }
+    })
 }
 
 fn withdrawal(number: u32, house: u32, second: u32) -> Event {
-    Event::Withdrawal {
+    Event::Withdrawal(Withdrawal {
         number,
         house,
         second,
-    }
+    })
 }
 
 // Puts each call to a book of rates, on the notice of SERIED03: offer 100, minimum 10, seconds 30,600 to 46,800.
@@ -75,10 +72,8 @@ fn plays(
 ) {
     let mut book: Book<'_, (Rate, ProRata)> = Book::open(CheckedNotice::first(), rows);
     for case in cases {
-        match book.take(case.event, demands, shares) {
-            Ok(number) => assert_eq!(rt; (number, 0), (case.number, case.refusal)),
-            Err(fault) => assert_eq!(rt; (0, fault.number()), (case.number, case.refusal)),
-        }
+        let answer = book.take(case.event, demands, shares);
+        assert_eq!(rt; answer.map_err(|fault| fault.number()), case.answer);
     }
 }
 

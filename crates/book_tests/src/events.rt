@@ -1,6 +1,6 @@
 // Events that are put to a book without work tables.
 use book::book::Book;
-use book::event::Event;
+use book::event::{Change, Entry, Event, Withdrawal};
 use book::fault::BookFault;
 use book::sale::Sale;
 
@@ -13,13 +13,13 @@ pub fn enter<S: Sale>(
     lots: u32,
 ) -> Result<u32, BookFault> {
     book.take(
-        Event::Entry {
+        Event::Entry(Entry {
             series: *b"SERIED03",
             house,
             second,
             quote,
             lots,
-        },
+        }),
         &mut [],
         &mut [],
     )
@@ -34,13 +34,13 @@ pub fn change<S: Sale>(
     lots: u32,
 ) -> Result<u32, BookFault> {
     book.take(
-        Event::Change {
+        Event::Change(Change {
             number,
             house,
             second,
             quote,
             lots,
-        },
+        }),
         &mut [],
         &mut [],
     )
@@ -53,11 +53,11 @@ pub fn withdraw<S: Sale>(
     second: u32,
 ) -> Result<u32, BookFault> {
     book.take(
-        Event::Withdrawal {
+        Event::Withdrawal(Withdrawal {
             number,
             house,
             second,
-        },
+        }),
         &mut [],
         &mut [],
     )

@@ -48,9 +48,9 @@ fields_of (Limit q) = None
 -- the event of any other message
 abbrev pub event_of : Message → Option Event
 event_of (Notice c r s0 s1 s2 s3 s4 s5 s6 s7 o m p n a z) = None
-event_of (Entry s0 s1 s2 s3 s4 s5 s6 s7 h t q l) = Some (event.Entry (series_of s0 s1 s2 s3 s4 s5 s6 s7) h t q l)
-event_of (Change n h t q l) = Some (event.Change n h t q l)
-event_of (Withdrawal n h t) = Some (event.Withdrawal n h t)
+event_of (Entry s0 s1 s2 s3 s4 s5 s6 s7 h t q l) = Some (event.Entry (record { series = series_of s0 s1 s2 s3 s4 s5 s6 s7; house = h; second = t; quote = q; lots = l }))
+event_of (Change n h t q l) = Some (event.Change (record { number = n; house = h; second = t; quote = q; lots = l }))
+event_of (Withdrawal n h t) = Some (event.Withdrawal (record { number = n; house = h; second = t }))
 event_of (Close t) = Some (event.Close t)
 event_of (Limit q) = Some (event.Limit q)
 

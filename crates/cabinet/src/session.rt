@@ -10,7 +10,7 @@ use crate::fault::SessionFault;
 use crate::located::locate;
 use crate::reading::read;
 use book::book::Book;
-use book::event::Event;
+use book::event::{Change, Entry, Event, Withdrawal};
 use book::fault::BookFault;
 use book::sale::Sale;
 use wire::call::Call;
@@ -36,35 +36,35 @@ fn event_of(message: &Message) -> Option<Event>
             second,
             quote,
             lots,
-        } => Some(Event::Entry {
+        } => Some(Event::Entry(Entry {
             series: [s0, s1, s2, s3, s4, s5, s6, s7],
             house,
             second,
             quote,
             lots,
-        }),
+        })),
         Message::Change {
             number,
             house,
             second,
             quote,
             lots,
-        } => Some(Event::Change {
+        } => Some(Event::Change(Change {
             number,
             house,
             second,
             quote,
             lots,
-        }),
+        })),
         Message::Withdrawal {
             number,
             house,
             second,
-        } => Some(Event::Withdrawal {
+        } => Some(Event::Withdrawal(Withdrawal {
             number,
             house,
             second,
-        }),
+        })),
         Message::Close { second } => Some(Event::Close { second }),
         Message::Limit { quote } => Some(Event::Limit { quote }),
     }

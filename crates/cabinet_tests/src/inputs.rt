@@ -75,9 +75,7 @@ pub fn limit(quote: i32) -> Message {
 pub fn send(input: &mut Vec<u8>, message: &Message) -> Result<(), AllocError> {
     let mut space = [0u8; 35];
     if let Ok(count) = write(message, &mut space) {
-        for b in &space[0..count] {
-            input.push(*b)?;
-        }
+        input.extend_from_slice(&space[..count])?;
     }
     Ok(())
 }

@@ -1,4 +1,5 @@
 // The head and the rows of an act.
+use crate::written;
 use book::outcome::Outcome;
 use print::head::{Cut, Head};
 use print::row::ActRow;
@@ -6,14 +7,7 @@ use print::writer::write_act;
 
 // Whether the act is written as the bytes, and the rest of the space left.
 fn is_written(head: &Head<'_>, rows: &[ActRow], bytes: &[u8]) -> bool {
-    let mut space = [238u8; 160];
-    match write_act(head, rows, &mut space) {
-        Ok(count) => count == bytes.len()
-            && count < 160
-            && &space[0..count] == bytes
-            && space[count] == 238,
-        Err(_) => false,
-    }
+    written::is_written(|space| write_act(head, rows, space), bytes)
 }
 
 #[test]

@@ -7,3 +7,5 @@ mod acts;
 mod prints;
 #[cfg(test)]
 mod refusals;
+#[cfg(test)]
+mod written;

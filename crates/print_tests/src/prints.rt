@@ -1,4 +1,5 @@
 // Whole prints.
+use crate::written;
 use book::outcome::Outcome;
 use print::act::Act;
 use print::head::{Cut, Head};
@@ -8,14 +9,7 @@ use print::writer::{write_no_act, write_print};
 
 // Whether the print is written as the bytes, and the rest of the space left.
 fn is_written(refusals: &[Refusal], ending: Option<Act<'_>>, bytes: &[u8]) -> bool {
-    let mut space = [238u8; 160];
-    match write_print(refusals, ending, &mut space) {
-        Ok(count) => count == bytes.len()
-            && count < 160
-            && &space[0..count] == bytes
-            && space[count] == 238,
-        Err(_) => false,
-    }
+    written::is_written(|space| write_print(refusals, ending, space), bytes)
 }
 
 // Whether a space of the length is long enough for the print.

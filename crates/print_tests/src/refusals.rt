@@ -1,17 +1,11 @@
 // The line of a refusal.
+use crate::written;
 use print::refusal::Refusal;
 use print::writer::write_refusal;
 
 // Whether the refusal is written as the bytes, and the rest of the space left.
 fn is_written(refusal: &Refusal, bytes: &[u8]) -> bool {
-    let mut space = [238u8; 64];
-    match write_refusal(refusal, &mut space) {
-        Ok(count) => count == bytes.len()
-            && count < 64
-            && &space[0..count] == bytes
-            && space[count] == 238,
-        Err(_) => false,
-    }
+    written::is_written(|space| write_refusal(refusal, space), bytes)
 }
 
 #[test]

@@ -102,32 +102,32 @@ module _ {Q : Type 0} (read : ℤ → Option Q) (notice : Notice) (table : ℕ) 
   -- an accepted event leaves it so
   next_coherent : (p : Past Q) → Coherent p → (one other : ℕ) (e : Event) → first (grounds read notice table p one other e) ≡ None
       → Coherent (next read notice table p e)
-  next_coherent p c one other (Entry series house second quote lots) free =
-      let f = first_none (grounds read notice table p one other (Entry series house second quote lots)) free in
+  next_coherent p c one other (Entry e) free =
+      let f = first_none (grounds read notice table p one other (Entry e)) free in
       let room : p.entered < min table 4_096 = leb-false (min table 4_096) p.entered f.1.1.1.1.1.1.0 in
-      let fit = lots_admitted notice lots fits (not-false (between notice.minimum lots notice.offer) f.1.1.1.1.0) in
+      let fit = lots_admitted notice e.lots fits (not-false (between notice.minimum e.lots notice.offer) f.1.1.1.1.0) in
       let new = All-weaker (λ b. (1 ≤ b.number) × (b.number ≤ p.entered)) (λ b. b.number ≢ p.entered + 1) (λ b h e. omega (arith, h.1)) p.standing c.bids.numbers in
       record {
-        bids = orderly_last (p.entered + 1) house lots (p.entered + 1) (read quote) p.standing (orderly_more p.entered p.standing c.bids) new
+        bids = orderly_last (p.entered + 1) e.house e.lots (p.entered + 1) (read e.quote) p.standing (orderly_more p.entered p.standing c.bids) new
             (omega arith, omega arith) fit (omega (arith, c.bids.many));
         few = omega arith;
         ended = c.ended;
       }
-  next_coherent p c one other (Change number house second quote lots) free =
-      let f = first_none (grounds read notice table p one other (Change number house second quote lots)) free in
-      let stands = not-false (is_some (bid_of number p.standing)) f.1.1.1.1.0 in
-      let fit = lots_admitted notice lots fits (not-false (between notice.minimum lots notice.offer) f.1.1.1.0) in
-      let found = some_is (bid_of number p.standing) stands in
-      let is = found_all (λ b. (1 ≤ b.number) × (b.number ≤ p.entered)) number found.0 p.standing c.bids.numbers found.1 in
+  next_coherent p c one other (Change e) free =
+      let f = first_none (grounds read notice table p one other (Change e)) free in
+      let stands = not-false (is_some (bid_of e.number p.standing)) f.1.1.1.1.0 in
+      let fit = lots_admitted notice e.lots fits (not-false (between notice.minimum e.lots notice.offer) f.1.1.1.0) in
+      let found = some_is (bid_of e.number p.standing) stands in
+      let is = found_all (λ b. (1 ≤ b.number) × (b.number ≤ p.entered)) e.number found.0 p.standing c.bids.numbers found.1 in
       let range = subst (λ n. (1 ≤ n) × (n ≤ p.entered)) is.1 is.0 in
       record {
-        bids = orderly_last number house lots p.entered (read quote) (without number p.standing) (orderly_without number p.entered p.standing c.bids)
-            (without_other number p.standing) range fit (omega (arith, c.bids.many, without_one number p.standing stands));
+        bids = orderly_last e.number e.house e.lots p.entered (read e.quote) (without e.number p.standing) (orderly_without e.number p.entered p.standing c.bids)
+            (without_other e.number p.standing) range fit (omega (arith, c.bids.many, without_one e.number p.standing stands));
         few = c.few;
         ended = c.ended;
       }
-  next_coherent p c one other (Withdrawal number house second) free =
-      record { bids = orderly_without number p.entered p.standing c.bids; few = c.few; ended = c.ended }
+  next_coherent p c one other (Withdrawal e) free =
+      record { bids = orderly_without e.number p.entered p.standing c.bids; few = c.few; ended = c.ended }
   next_coherent p c one other (Close second) free =
       let f = first_none (grounds read notice table p one other (Close second)) free in
       let open' = open_undecided p.phase (not-false (takes_bids p.phase) f.0) in

@@ -21,9 +21,9 @@ use Rattle.runs.proofs.Awarding.{limit_follows}
 module _ {Q : Type 0} (number : Q → ℤ) (read : ℤ → Option Q) (no_worse : Q → Q → Bool) (share : List ℕ → ℕ → List ℕ)
     {low high : ℤ} (kind : Lawful number low high no_worse read) (s : Sheet Q) (k : Kept number read no_worse share s) where
   pub event_follows : (e : Event) → TakesOn number read no_worse share s e
-  event_follows (Entry series house second quote lots) = entry_follows number read no_worse share s k series house second quote lots
-  event_follows (Change n house second quote lots) = change_follows number read no_worse share s k n house second quote lots
-  event_follows (Withdrawal n house second) = withdrawal_follows number read no_worse share s k n house second
+  event_follows (Entry e) = entry_follows number read no_worse share s k e.series e.house e.second e.quote e.lots
+  event_follows (Change e) = change_follows number read no_worse share s k e.number e.house e.second e.quote e.lots
+  event_follows (Withdrawal e) = withdrawal_follows number read no_worse share s k e.number e.house e.second
   event_follows (Close second) = close_follows number read no_worse share s k second
   event_follows (Limit quote) = limit_follows number read no_worse share kind s k quote
 

@@ -175,9 +175,9 @@ module _ {Q : Type 0} (read : ℤ → Option Q) (no_worse : Q → Q → Bool) (s
     late_refusal p is one other e = first_led NotInThisState (grounds read notice table p one other e) (led e)
       where
         led : (e : Event) → LedBy NotInThisState (grounds read notice table p one other e)
-        led (Entry series house second quote lots) = (ap not (decided_takes p.phase is).0, refl)
-        led (Change number house second quote lots) = (ap not (decided_takes p.phase is).0, refl)
-        led (Withdrawal number house second) = (ap not (decided_takes p.phase is).0, refl)
+        led (Entry e) = (ap not (decided_takes p.phase is).0, refl)
+        led (Change e) = (ap not (decided_takes p.phase is).0, refl)
+        led (Withdrawal e) = (ap not (decided_takes p.phase is).0, refl)
         led (Close second) = (ap not (decided_takes p.phase is).0, refl)
         led (Limit quote) = (ap not (decided_takes p.phase is).1, refl)
 

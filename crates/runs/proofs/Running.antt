@@ -55,9 +55,9 @@ module _ {Q : Type 0} (number : Q → ℤ) (read : ℤ → Option Q) (no_worse :
 
   step_cut : (one other : ℕ) (s : Sheet Q) (e : Event) → s.used ≤ 4_096
       → step number read no_worse share (min one 4_096) (min other 4_096) s e ≡ step number read no_worse share one other s e
-  step_cut one other s (Entry series house second quote lots) h = refl
-  step_cut one other s (Change n house second quote lots) h = refl
-  step_cut one other s (Withdrawal n house second) h = refl
+  step_cut one other s (Entry e) h = refl
+  step_cut one other s (Change e) h = refl
+  step_cut one other s (Withdrawal e) h = refl
   step_cut one other s (Close second) h = refl
   step_cut one other s (Limit quote) h =
       ap

@@ -17,9 +17,9 @@ use Rattle.runs.proofs.Rows.{standing_append, standing_numbers, standing_moved, 
 use Rattle.runs.proofs.Kept.{no_limit, in_use_with, length_with, in_use_long, Kept, fresh_tells, Follows, taking, TakesOn}
 
 module _ {Q : Type 0} (number : Q → ℤ) (read : ℤ → Option Q) (no_worse : Q → Q → Bool) (share : List ℕ → ℕ → List ℕ) (s : Sheet Q) (k : Kept number read no_worse share s) where
-  pub entry_follows : (series : List ℕ) (house second : ℕ) (quote : ℤ) (lots : ℕ) → TakesOn number read no_worse share s (Entry series house second quote lots)
+  pub entry_follows : (series : List ℕ) (house second : ℕ) (quote : ℤ) (lots : ℕ) → TakesOn number read no_worse share s (Entry (record { series = series; house = house; second = second; quote = quote; lots = lots }))
   entry_follows series house second quote lots one other free =
-      let f = first_none (grounds read s.notice (length s.rows) (past_of read s) one other (Entry series house second quote lots)) free in
+      let f = first_none (grounds read s.notice (length s.rows) (past_of read s) one other (Entry (record { series = series; house = house; second = second; quote = quote; lots = lots }))) free in
       let early = open_undecided (phase_of s.state) (not-false (takes_bids (phase_of s.state)) f.0) in
       let ok = some_is (read quote) (not-false (is_some (read quote)) f.1.1.1.0) in
       let room : s.used < min (length s.rows) 4_096 = leb-false (min (length s.rows) 4_096) s.used f.1.1.1.1.1.1.0 in
@@ -61,9 +61,9 @@ module _ {Q : Type 0} (number : Q → ℤ) (read : ℤ → Option Q) (no_worse :
             long = total;
           }
 
-  pub change_follows : (n house second : ℕ) (quote : ℤ) (lots : ℕ) → TakesOn number read no_worse share s (Change n house second quote lots)
+  pub change_follows : (n house second : ℕ) (quote : ℤ) (lots : ℕ) → TakesOn number read no_worse share s (Change (record { number = n; house = house; second = second; quote = quote; lots = lots }))
   change_follows n house second quote lots one other free =
-      let f = first_none (grounds read s.notice (length s.rows) (past_of read s) one other (Change n house second quote lots)) free in
+      let f = first_none (grounds read s.notice (length s.rows) (past_of read s) one other (Change (record { number = n; house = house; second = second; quote = quote; lots = lots }))) free in
       let early = open_undecided (phase_of s.state) (not-false (takes_bids (phase_of s.state)) f.0) in
       let ok = some_is (read quote) (not-false (is_some (read quote)) f.1.1.0) in
       let stands = not-false (is_some (bid_of n (standing (in_use s)))) f.1.1.1.1.0 in
@@ -112,9 +112,9 @@ module _ {Q : Type 0} (number : Q → ℤ) (read : ℤ → Option Q) (no_worse :
               let is = found_all (λ b. b.number ≤ s.used) n found.0 (standing rows) (standing_numbers (λ m. m ≤ s.used) rows h) found.1 in
               omega (arith, is.0, is.1)
 
-  pub withdrawal_follows : (n house second : ℕ) → TakesOn number read no_worse share s (Withdrawal n house second)
+  pub withdrawal_follows : (n house second : ℕ) → TakesOn number read no_worse share s (Withdrawal (record { number = n; house = house; second = second }))
   withdrawal_follows n house second one other free =
-      let f = first_none (grounds read s.notice (length s.rows) (past_of read s) one other (Withdrawal n house second)) free in
+      let f = first_none (grounds read s.notice (length s.rows) (past_of read s) one other (Withdrawal (record { number = n; house = house; second = second }))) free in
       let early = open_undecided (phase_of s.state) (not-false (takes_bids (phase_of s.state)) f.0) in
       let used = withdrawn_in n (in_use s) in
       let long : length used ≡ s.used = length_withdrawn n (in_use s) ∙ in_use_long s k.fit in

@@ -1,6 +1,6 @@
 // A whole run of calls, each with its answer.
 use award::row::Row;
-use book::event::Event;
+use book::event::{Change, Entry, Event, Withdrawal};
 use book::fault::BookFault;
 use runs::call::{Answer, Call, Exchange};
 use runs::run::run;
@@ -43,31 +43,31 @@ fn put(event: Event) -> Call {
 }
 
 fn entry(house: u32, second: u32, quote: i32, lots: u32) -> Call {
-    put(Event::Entry {
+    put(Event::Entry(Entry {
         series: *b"SERIED03",
         house,
         second,
         quote,
         lots,
-    })
+    }))
 }
 
 fn change(number: u32, house: u32, second: u32, quote: i32, lots: u32) -> Call {
-    put(Event::Change {
+    put(Event::Change(Change {
         number,
         house,
         second,
         quote,
         lots,
-    })
+    }))
 }
 
 fn withdrawal(number: u32, house: u32, second: u32) -> Call {
-    put(Event::Withdrawal {
+    put(Event::Withdrawal(Withdrawal {
         number,
         house,
         second,
-    })
+    }))
 }
 
 fn close(second: u32) -> Call {

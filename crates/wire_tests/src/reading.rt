@@ -4,68 +4,68 @@ use wire::fault::ReadFault;
 use wire::message::Message;
 use wire::reader::Reader;
 
-// The number of a refusal, 0 for a message and 100 at the end.
-fn outcome(answer: Result<Option<Message>, ReadFault>) -> u8 {
-    match answer {
-        Ok(Some(_)) => 0,
-        Ok(None) => 100,
-        Err(fault) => fault.number(),
-    }
+// Whether there was a message, or the number of the refusal.
+type Told = Result<bool, u8>;
+
+fn told(answer: Result<Option<Message>, ReadFault>) -> Told {
+    answer
+        .map(|message| message.is_some())
+        .map_err(|fault| fault.number())
 }
 
 // What a call makes of the bytes, with the reader's place and count afterwards.
-fn read(bytes: &[u8], call: Call) -> (u8, usize, usize) {
+fn read(bytes: &[u8], call: Call) -> (Told, usize, usize) {
     let mut reader = Reader::new(bytes);
-    let told = outcome(reader.next(call));
-    (told, reader.place(), reader.passed())
+    let answer = told(reader.next(call));
+    (answer, reader.place(), reader.passed())
 }
 
 #[test]
 fn a_refused_event_leaves_place_and_count(rt: HostRuntime) {
-    let cases: [(&[u8], u8); 21] = [
-        (b"", 100),
-        (b"\x00", 1),
-        (b"\xff", 1),
-        (b"\x00\x01", 1),
-        (b"\xff\xff\x01\x04\x00\x00\x00\x00", 1),
-        (b"\x00\x06\x01\x04\x00\x00\x00", 1),
-        (b"\x00\x00", 2),
-        (b"\x00\x00\x01\x04\x00\x00\x00\x00", 2),
-        (b"\x00\x01\x01", 2),
-        (b"\x00\x06\x00\x04\x00\x00\x00\x00", 3),
-        (b"\x00\x06\x02\x04\x00\x00\x00\x00", 3),
-        (b"\x00\x06\xff\x04\x00\x00\x00\x00", 3),
-        (b"\x00\x06\x01\x00\x00\x00\x00\x00", 4),
-        (b"\x00\x06\x01\x06\x00\x00\x00\x00", 4),
-        (b"\x00\x06\x01\xff\x00\x00\x00\x00", 4),
-        (b"\x00\x02\x01\x04", 5),
-        (b"\x00\x05\x01\x04\x00\x00\x00", 5),
-        (b"\x00\x07\x01\x04\x00\x00\x00\x00\x00", 5),
-        (b"\x06\x00\x01\x04\x00\x00\x00\x00", 1),
+    let cases: [(&[u8], Told); 21] = [
+        (b"", Ok(false)),
+        (b"\x00", Err(1)),
+        (b"\xff", Err(1)),
+        (b"\x00\x01", Err(1)),
+        (b"\xff\xff\x01\x04\x00\x00\x00\x00", Err(1)),
+        (b"\x00\x06\x01\x04\x00\x00\x00", Err(1)),
+        (b"\x00\x00", Err(2)),
+        (b"\x00\x00\x01\x04\x00\x00\x00\x00", Err(2)),
+        (b"\x00\x01\x01", Err(2)),
+        (b"\x00\x06\x00\x04\x00\x00\x00\x00", Err(3)),
+        (b"\x00\x06\x02\x04\x00\x00\x00\x00", Err(3)),
+        (b"\x00\x06\xff\x04\x00\x00\x00\x00", Err(3)),
+        (b"\x00\x06\x01\x00\x00\x00\x00\x00", Err(4)),
+        (b"\x00\x06\x01\x06\x00\x00\x00\x00", Err(4)),
+        (b"\x00\x06\x01\xff\x00\x00\x00\x00", Err(4)),
+        (b"\x00\x02\x01\x04", Err(5)),
+        (b"\x00\x05\x01\x04\x00\x00\x00", Err(5)),
+        (b"\x00\x07\x01\x04\x00\x00\x00\x00\x00", Err(5)),
+        (b"\x06\x00\x01\x04\x00\x00\x00\x00", Err(1)),
         (
             b"\x00\x0e\x01\x02\x00\x00\x00\x01\x00\x00\x00\x0a\x00\x00\x77\x88",
-            5,
+            Err(5),
         ),
-        (b"\x00\x06\x01\x03\x00\x00\x00\x01", 5),
+        (b"\x00\x06\x01\x03\x00\x00\x00\x01", Err(5)),
     ];
-    for (bytes, number) in cases {
+    for (bytes, answer) in cases {
         let (told, place, passed) = read(bytes, Call::Session);
-        assert!(rt; told == number && place == 0 && passed == 0);
+        assert!(rt; told == answer && place == 0 && passed == 0);
     }
 }
 
 #[test]
 fn of_several_grounds_the_smallest_number_wins(rt: HostRuntime) {
-    let cases: [(&[u8], u8); 4] = [
-        (b"\x00\x09\x02\x09", 1),
-        (b"\x00\x01\x02\x09", 2),
-        (b"\x00\x03\x02\x09\x00", 3),
-        (b"\x00\x03\x01\x09\x00", 4),
+    let cases: [(&[u8], Told); 4] = [
+        (b"\x00\x09\x02\x09", Err(1)),
+        (b"\x00\x01\x02\x09", Err(2)),
+        (b"\x00\x03\x02\x09\x00", Err(3)),
+        (b"\x00\x03\x01\x09\x00", Err(4)),
     ];
-    for (bytes, number) in cases {
+    for (bytes, answer) in cases {
         let (in_session, _, _) = read(bytes, Call::Session);
         let (at_opening, _, _) = read(bytes, Call::Opening);
-        assert!(rt; in_session == number && at_opening == number);
+        assert!(rt; in_session == answer && at_opening == answer);
     }
 }
 
@@ -91,7 +91,7 @@ fn a_message_is_passed_whole_whatever_follows_it(rt: HostRuntime) {
     ];
     for (bytes, end) in cases {
         let (told, place, passed) = read(bytes, Call::Session);
-        assert!(rt; told == 0 && place == end && passed == 1);
+        assert!(rt; told == Ok(true) && place == end && passed == 1);
     }
 }
 
@@ -99,19 +99,19 @@ fn a_message_is_passed_whole_whatever_follows_it(rt: HostRuntime) {
 fn the_notice_call_takes_a_notice_only(rt: HostRuntime) {
     let whole =
         b"\x00\x21\x01\x00\x01\x01SERIED03\x00\x00\x00\x64\x00\x00\x00\x0a\x00\x00\x00\x32\x02\x00\x00\x77\x88\x00\x00\xb6\xd0\x00";
-    let cases: [(&[u8], u8, usize); 8] = [
-        (b"", 100, 0),
-        (whole, 0, 35),
-        (&whole[0..34], 1, 0),
-        (b"\x00\x06\x01\x00\x00\x00\x00\x00", 5, 0),
-        (b"\x00\x06\x01\x01\x00\x00\x00\x00", 4, 0),
-        (b"\x00\x06\x01\x05\x00\x00\x02\x8a", 4, 0),
-        (b"\x00\x06\x01\x06\x00\x00\x00\x00", 4, 0),
-        (b"\x00\x06\x01\xff\x00\x00\x00\x00", 4, 0),
+    let cases: [(&[u8], Told, usize); 8] = [
+        (b"", Ok(false), 0),
+        (whole, Ok(true), 35),
+        (&whole[0..34], Err(1), 0),
+        (b"\x00\x06\x01\x00\x00\x00\x00\x00", Err(5), 0),
+        (b"\x00\x06\x01\x01\x00\x00\x00\x00", Err(4), 0),
+        (b"\x00\x06\x01\x05\x00\x00\x02\x8a", Err(4), 0),
+        (b"\x00\x06\x01\x06\x00\x00\x00\x00", Err(4), 0),
+        (b"\x00\x06\x01\xff\x00\x00\x00\x00", Err(4), 0),
     ];
-    for (bytes, number, end) in cases {
+    for (bytes, answer, end) in cases {
         let (told, place, _) = read(bytes, Call::Opening);
-        assert!(rt; told == number && place == end);
+        assert!(rt; told == answer && place == end);
     }
 }
 
@@ -133,13 +133,18 @@ fn each_refusal_has_its_number_and_its_byte(rt: HostRuntime) {
 fn one_reader_goes_through_notice_and_session(rt: HostRuntime) {
     let bytes =
         b"\x00\x21\x01\x00\x01\x01SERIED03\x00\x00\x00\x64\x00\x00\x00\x0a\x00\x00\x00\x32\x02\x00\x00\x77\x88\x00\x00\xb6\xd0\x00\x06\x01\x04\x00\x00\xb6\xd0\x00\x06\x01\x05\x00\x00\x02\x8a\x00\x06\x01\x00";
-    let cases: [(u8, usize, usize); 4] = [(0, 43, 2), (0, 51, 3), (1, 51, 3), (1, 51, 3)];
+    let cases: [(Told, usize, usize); 4] = [
+        (Ok(true), 43, 2),
+        (Ok(true), 51, 3),
+        (Err(1), 51, 3),
+        (Err(1), 51, 3),
+    ];
     let mut reader = Reader::new(bytes);
-    assert!(rt; outcome(reader.event()) == 4);
-    assert!(rt; outcome(reader.notice()) == 0);
+    assert!(rt; told(reader.event()) == Err(4));
+    assert!(rt; told(reader.notice()) == Ok(true));
     assert!(rt; reader.place() == 35 && reader.passed() == 1);
-    for (number, place, passed) in cases {
-        assert!(rt; outcome(reader.event()) == number);
+    for (answer, place, passed) in cases {
+        assert!(rt; told(reader.event()) == answer);
         assert!(rt; reader.place() == place && reader.passed() == passed);
     }
 }

@@ -21,7 +21,7 @@ returns g c =
     let told = c.in_ok-cut.ensures in
     let done = limit_taken q.number q.read q.no_worse share (length c.args.demands.now) (length c.args.shares.now) (view b) c.args.quote limit read told.answer.0 in
     let lots = ap (take b.used) told.lots
-    ∙ lots_in_front q.no_worse share (terms_of b.notice.notice) (terms_of b.notice.notice) refl limit b.rows.now b.used b.fit c.args.demands.now in
+    ∙ lots_in_front q.no_worse share (terms_of b.notice.notice) (terms_of b.notice.notice) refl limit b.rows.now b.used b.fit (take b.used b.rows.now) refl c.args.demands.now in
     let state = c.state_by-self.ensures ∙ ap (state_by q.number limit) told.answer.1 in
     record {
       result = sym (ap (λ (p : Sheet g.row.S-Quote.Denot × Result ℕ BookFault). p.1) done);

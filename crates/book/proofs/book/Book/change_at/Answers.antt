@@ -8,18 +8,18 @@ use Rattle.book.proofs.Moving.{moved_last}
 use Rattle.book.proofs.book.Book.change_at.Goals as goal
 
 pub close_gap-requires : goal.close_gap-requires
-close_gap-requires g c = let b = c.args.self.now in found_below c.args.number b.used b.rows.now b.fit c.args.at c.requires.found
+close_gap-requires g c = let b = c.args.self.now in found_below c.args.change.number b.used b.rows.now b.fit c.args.replacement.at c.requires.found
 
 pub overflow_sub-last : goal.overflow_sub-last
 overflow_sub-last g c =
     let b = c.args.self.now in
-    let below = found_below c.args.number b.used b.rows.now b.fit c.args.at c.requires.found in
+    let below = found_below c.args.change.number b.used b.rows.now b.fit c.args.replacement.at c.requires.found in
     omega arith
 
 pub put-requires : goal.put-requires
 put-requires g c =
     let old = c.args.self.now in
-    let below = found_below c.args.number old.used old.rows.now old.fit c.args.at c.requires.found in
+    let below = found_below c.args.change.number old.used old.rows.now old.fit c.args.replacement.at c.requires.found in
     let used = ap (λ (s : Sheet g.row.S-Quote.Denot). s.used) c.close_gap.ensures.after in
     let fit = c.close_gap.new.self.fit in
     record { place = omega arith; lots = c.requires.lots }
@@ -34,8 +34,8 @@ invariant_of-self g c =
 pub returns : goal.returns
 returns g c =
     let old = c.args.self.now in
-    let row = new_row c.args.number c.args.house c.args.quote c.args.lots in
-    let rows = moved_last c.args.number old.used old.rows.now old.fit c.args.at c.requires.found row in
+    let row = new_row c.args.change.number c.args.change.house c.args.replacement.quote c.args.change.lots in
+    let rows = moved_last c.args.change.number old.used old.rows.now old.fit c.args.replacement.at c.requires.found row in
     let after = c.put.ensures.after ∙ ap (λ (s : Sheet g.row.S-Quote.Denot). on_rows s (set s.rows (old.used - 1) row)) c.close_gap.ensures.after
     ∙ ap (on_rows (view old)) rows in
     record {
@@ -44,7 +44,7 @@ returns g c =
         state = s.state;
         used = s.used;
         arrivals = s.arrivals + 1;
-        last = c.args.second;
+        last = c.args.change.second;
         rows = s.rows;
       }) after;
       same = c.put.ensures.same ∙ c.close_gap.ensures.same;

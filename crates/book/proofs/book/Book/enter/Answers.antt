@@ -17,7 +17,7 @@ invariant_of-self g c =
 pub returns : goal.returns
 returns g c =
     let b = c.args.self.now in
-    let row = λ (n : ℕ). new_row n c.args.house c.args.quote c.args.lots in
+    let row = λ (n : ℕ). new_row n c.args.entry.house c.args.quote c.args.entry.lots in
     let rows = ap (λ (n : ℕ). set b.rows.now c.rows_used-at.result (row n)) c.next_number-number.ensures
     ∙ next_written b.rows.now b.used c.rows_used-at.result (row (b.used + 1)) c.rows_used-at.ensures c.requires.room in
     record {
@@ -28,7 +28,7 @@ returns g c =
           state = b.state;
           used = b.used + 1;
           arrivals = b.arrivals + 1;
-          last = c.args.second;
+          last = c.args.entry.second;
           rows = rs;
         }) rows;
         same = refl;

@@ -13,8 +13,8 @@ returns g c =
     let given = award_terms c.conditions.result in
     let terms = terms_of b.notice.notice in
     record {
-      answer = reckoned_ok better share given terms c.conditions.ensures c.args.limit b.rows.now b.used b.fit
+      answer = reckoned_ok better share given terms c.conditions.ensures c.args.limit b.rows.now b.used b.fit c.in_use.result.now c.in_use.ensures
           (length c.args.demands.now) (length c.args.shares.now) c.in_ok-cut.cut told.answer;
-      lots = told.lots ∙ lots_in_use better share given terms c.conditions.ensures c.args.limit b.rows.now b.used b.fit c.args.demands.now;
-      shares = told.shares ∙ shares_in_use better share given terms c.conditions.ensures c.args.limit b.rows.now b.used b.fit c.args.shares.now;
+      lots = told.lots ∙ lots_in_use better share given terms c.conditions.ensures c.args.limit b.rows.now b.used b.fit c.in_use.result.now c.in_use.ensures c.args.demands.now;
+      shares = told.shares ∙ shares_in_use better share given terms c.conditions.ensures c.args.limit b.rows.now b.used b.fit c.in_use.result.now c.in_use.ensures c.args.shares.now;
     }
