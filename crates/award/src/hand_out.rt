@@ -11,6 +11,8 @@ use crate::row::Row;
 use terms::quote::Quote;
 use terms::sharing::SharingRule;
 
+// (Each function asks that a lent table is long enough: `award` has judged that once, and the tables are no part of the bids.)
+
 // Nobody gets a lot.
 fn serve_none<Q: Quote>(rows: &[Row<Q>], lots: &mut [u32])
     requires { length rows.now ≤ length lots.old }

@@ -7,7 +7,8 @@ ghost use Rattle.award.specs.Rows.{counted, with_lots};
 use crate::quotes::same;
 use terms::quote::Quote;
 
-// One bid. Rows stand in the order of their bids' arrival; a withdrawn bid keeps its row and stands no more.
+// One bid. Rows stand in the order of their bids' arrival; a withdrawn bid keeps its row and stands no more. (A flag, and no `Option`: the act
+// shows the last quote and lots of a withdrawn bid too.)
 #[derive(Clone, Copy)]
 pub struct Row<Q> {
     pub number: u32,

@@ -1,4 +1,5 @@
-// The book: rows that its owner lends, in which the bids stand in the order of their arrival.
+// The book: rows that its owner lends, in which the bids stand in the order of their arrival. (They are lent and their use is counted, since the
+// project takes no memory of its own.)
 ghost use Rattle.std.specs.Prelude.{◌≡◌, ℕ, ◌<◌, ◌≤◌, true, length, take};
 ghost use Rattle.award.specs.Rows.{rows_fit};
 

@@ -19,7 +19,7 @@ pub enum Outcome {
 }
 
 impl Outcome {
-    // The number of the outcome.
+    // The number of the outcome. (A match: `as` takes no enum whose cases have fields.)
     pub fn number(self) -> u8
         ensures { result ≡ outcome_number self }
     {

@@ -80,8 +80,8 @@ fn act_rows<S: Sale>(book: &Book<'_, S>) -> ActRows
     ensures few { length result ≤ (view book.now).used }
 {
     let mut rows = Listed::new(NO_ROW);
-    for passed in 0..book.bids_entered() {
-        rows.append(act_row(book, passed + 1));
+    for number in 1..=book.bids_entered() {
+        rows.append(act_row(book, number));
     }
     rows
 }

@@ -26,6 +26,8 @@ use wire::reader::Reader;
 // The most bytes of an input that are read.
 const MOST_INPUT: usize = 65_536;
 
+// (Each function below says in one clause what it writes and in another which space suffices, since the next one builds on both.)
+
 // The codes of the kinds and of the rules.
 const RATE: u8 = Rate::CODE;
 
@@ -60,7 +62,7 @@ fn print_prices<R: SharingRule + Drop>(bytes: &[u8], space: &mut [u8]) -> Result
     print_sale::<Price, R>(bytes, &mut rows, space)
 }
 
-// The print of the sale with these codes; a code that no kind or rule has is refused.
+// The print of the sale with these codes; a code that no kind or rule has is refused. (They are the bytes that were sent, and choose types.)
 fn print_by(bytes: &[u8], kind: u8, rule: u8, space: &mut [u8]) -> Result<usize, WriteFault>
     ensures written { Writes (print_by bytes.now kind rule) space.old space.new result }
     ensures enough { Suffices (length space.old) result }

@@ -1,5 +1,5 @@
 // A run of calls on a book that is opened for it.
-ghost use Rattle.std.specs.Prelude.{◌≡◌, min, length};
+ghost use Rattle.std.specs.Prelude.{◌≡◌, min, drop};
 ghost use Rattle.book.specs.Books.{Becomes};
 ghost use Rattle.runs.specs.Books.{told, after_call, exchange_on};
 ghost use Rattle.runs.specs.Runs.{RunLaw};
@@ -23,27 +23,23 @@ struct Tables {
     shares: [u32; MOST_BIDS],
 }
 
-// As many of a table's places as are named, or all of them.
-fn cut(table: &mut [u32; MOST_BIDS], places: usize) -> &mut [u32]
-    ensures { length result.now ≡ min places 4_096 }
-{
-    &mut table[0..places.min(MOST_BIDS)]
-}
-
 // Puts an event to the book, with as many places of two work tables as are named. No more than 4,096 bids are entered, so that 4,096 places
-// serve as well as more.
+// serve as well as more; the others stay as they were.
 fn put<S: Sale>(
     book: &mut Book<'_, S>,
     event: Event,
     one: usize,
     other: usize,
-    tables: &mut Tables,
+    demands: &mut [u32; MOST_BIDS],
+    shares: &mut [u32; MOST_BIDS],
 ) -> Result<Answer<S::Quote>, BookFault>
     ensures answer { result ≡ told book.old (Putting event one other) }
     ensures book { Becomes book.old book.new (after_call book.old (Putting event one other)) }
+    ensures demands { drop (min one 4_096) demands.new ≡ drop (min one 4_096) demands.old }
+    ensures shares { drop (min other 4_096) shares.new ≡ drop (min other 4_096) shares.old }
 {
-    let demands = cut(&mut tables.demands, one);
-    let shares = cut(&mut tables.shares, other);
+    let demands = &mut demands[..one.min(MOST_BIDS)];
+    let shares = &mut shares[..other.min(MOST_BIDS)];
     Ok(Answer::Accepted(book.take(event, demands, shares)?))
 }
 
@@ -61,7 +57,14 @@ fn make<S: Sale>(
             event,
             demands,
             shares,
-        } => put(book, event, demands, shares, tables),
+        } => put(
+            book,
+            event,
+            demands,
+            shares,
+            &mut tables.demands,
+            &mut tables.shares,
+        ),
         Call::Count => Ok(Answer::Count(book.count())),
         Call::Placed => Ok(Answer::Placed(book.placed())),
         Call::CutOff => Ok(Answer::CutOff(book.cut_off())),

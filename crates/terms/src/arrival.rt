@@ -22,6 +22,7 @@ impl SharingRule for InArrivalOrder {
     fn share(balance: u32, demands: &[u32], shares: &mut [u32]) -> Result<(), ShareFault> {
         check(balance, demands, shares.len())?;
         let mut left = balance;
+        // (By place: a zip with `iter_mut` leaves the table's elements unknown.)
         for (i, d) in demands.iter().enumerate() {
             let (given, rest) = serve(*d, left);
             shares[i] = given;

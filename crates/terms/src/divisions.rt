@@ -1,4 +1,5 @@
-// Four divisions worked by hand: as theorems of the rules, and by the code.
+// Four divisions worked by hand: as theorems of the rules, and by the code. (Each has a function of its own, since its contract is that one
+// division.)
 ghost use Rattle.std.specs.Prelude.{◌≡◌, [], ◌∷◌, replicate};
 ghost use Rattle.terms.specs.Divisions.{WorkedDivisions};
 ghost use Rattle.terms.specs.Grounds.{first};

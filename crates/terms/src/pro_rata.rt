@@ -96,7 +96,8 @@ impl<'a> Division<'a> {
         (demand as u64 * self.balance as u64 / self.total) as u32
     }
 
-    // Fills the front of the table with the first shares.
+    // Fills the front of the table with the first shares. (By place, here and in `deal`: a zip with `iter_mut` leaves the table's elements
+    // unknown. Each function asks that the table is long enough, since the table is lent to it and is no part of the division.)
     fn lay_firsts(&self, firsts: &mut [u32])
         requires { length self.now.demands.now ≤ length firsts.old }
         ensures { firsts.new ≡ laid (first_shares self.now.demands.now self.now.balance) firsts.old }
@@ -137,7 +138,7 @@ impl<'a> Division<'a> {
         self.demands.iter().map(|d| self.room_of(*d, bound)).sum()
     }
 
-    // The first share at which the remainder `rest` runs out, by bisection.
+    // The first share at which the remainder `rest` runs out, by bisection. (A loop: `partition_point` goes over a slice, and there is none.)
     fn threshold(&self, rest: u64) -> u32
         requires { rest ≤ room_below (first_share self.now.balance self.now.total) (most_lots + 1) self.now.demands.now }
         ensures { Threshold (first_share self.now.balance self.now.total) self.now.demands.now rest result }

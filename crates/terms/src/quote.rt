@@ -1,4 +1,5 @@
-// Kinds of quote. A kind is the type of its quotes.
+// Kinds of quote. A kind is the type of its quotes. (A kind is a type of its own with its own few lines: one type for all, over a scale, would
+// need a marker type for each, a `Clone` by hand and a second trait with laws.)
 ghost use Rattle.std.specs.Prelude.{◌≡◌, ℕ, Bool, List, ℤ, Option as Maybe};
 ghost use Rattle.terms.specs.Quotes.{Lawful, quoted};
 
