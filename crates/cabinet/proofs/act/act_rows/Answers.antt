@@ -1,4 +1,4 @@
-use Rattle.std.proofs.Common.{◌≡◌, ◌-◌, length, ap, ◌∙◌, arith}
+use Rattle.std.proofs.Common.{◌≡◌, ◌-◌, ap, ◌∙◌, arith}
 use Rattle.book.specs.Views.{view}
 use Rattle.cabinet.specs.Acts.{rows_to}
 use Rattle.cabinet.proofs.act.act_rows.Goals as goal
