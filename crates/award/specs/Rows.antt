@@ -1,5 +1,5 @@
 -- Rows as bids: those that stand, in the order of the table, which is that of their arrival.
-use Rattle.std.specs.Prelude.{ℕ, Bool, true, cond, ◌&&◌, List, [], ◌∷◌}
+use Rattle.std.specs.Prelude.{ℕ, Bool, true, false, cond, ◌&&◌, List, [], ◌∷◌}
 use Rattle.terms.specs.Sharing.{demand_fits}
 use Rattle.award.specs.declared.row.Row.{Row}
 use Rattle.award.specs.declared.conditions.Conditions.{Conditions}
@@ -10,6 +10,14 @@ abbrev pub terms_of : Conditions → Terms
 terms_of c = record { offer = c.offer; least_number = c.least_number; least_placement = c.least_placement }
 
 module _ {Q : Type 0} where
+  -- a row of no bid
+  abbrev pub blank_row : Q → Row Q
+  blank_row q = record { number = 0; house = 0; quote = q; lots = 0; standing = false; allotted = 0 }
+
+  -- a row for a bid that has just arrived
+  abbrev pub new_row : ℕ → ℕ → Q → ℕ → Row Q
+  new_row number house quote lots = record { number = number; house = house; quote = quote; lots = lots; standing = true; allotted = 0 }
+
   -- each row is of 1 to 1,000,000,000 lots
   abbrev pub rows_fit : List (Row Q) → Bool
   rows_fit [] = true

@@ -17,7 +17,8 @@ pub fn standing_count<Q: Copy>(rows: &[Row<Q>]) -> usize
 }
 
 impl<'a, Q: Quote> Bids<'a, Q> {
-    // What the standing bids at such quotes ask for. The rules name this loop for the demand within the limit: over the rows, with index.
+    // What the standing bids at such quotes ask for. (It is a rule of the project that the demand within the limit is summed by a loop over the rows,
+    // with index; it serves for the better bids too.)
     fn asked<T: Fn(Q) -> bool>(&self, such: T) -> u64
         requires { T.IsAlwaysCallable such }
         ensures { (test : Q → Bool) → IsTest (T.post such) test → result ≡ asked test (standing self.now.rows.now) }

@@ -2,13 +2,14 @@
 ghost use Rattle.std.specs.Prelude.{◌≡◌, Bool, ◌&&◌};
 ghost use Rattle.award.specs.Award.{same};
 ghost use Rattle.award.specs.Calls.{IsTest};
-ghost use Rattle.award.specs.Rows.{counted, with_lots};
+ghost use Rattle.award.specs.Rows.{blank_row, new_row, counted, with_lots};
 
 use crate::quotes::same;
 use terms::quote::Quote;
 
 // One bid. Rows stand in the order of their bids' arrival; a withdrawn bid keeps its row and stands no more. (A flag, and no `Option`: the act
-// shows the last quote and lots of a withdrawn bid too.)
+// shows the last quote and lots of a withdrawn bid too. The range of the lots stands in the contracts and not in the type: `Clone` cannot be
+// derived on a generic struct with a ghost field.)
 #[derive(Clone, Copy)]
 pub struct Row<Q> {
     pub number: u32,
@@ -20,6 +21,34 @@ pub struct Row<Q> {
 }
 
 impl<Q: Copy> Row<Q> {
+    // A row of no bid.
+    pub fn blank(quote: Q) -> Row<Q>
+        ensures { result ≡ blank_row quote }
+    {
+        Row {
+            number: 0,
+            house: 0,
+            quote,
+            lots: 0,
+            standing: false,
+            allotted: 0,
+        }
+    }
+
+    // The row of a bid that has just arrived.
+    pub fn new(number: u32, house: u32, quote: Q, lots: u32) -> Row<Q>
+        ensures { result ≡ new_row number house quote lots }
+    {
+        Row {
+            number,
+            house,
+            quote,
+            lots,
+            standing: true,
+            allotted: 0,
+        }
+    }
+
     // The row with this allotment, and otherwise as it was.
     pub fn with_lots(self, lots: u32) -> Row<Q>
         ensures { result ≡ with_lots lots self }

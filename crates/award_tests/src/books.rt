@@ -20,14 +20,7 @@ use terms::sharing::SharingRule;
 fn bid<Q: Quote>(number: u32, lots: u32, quote: Q) -> Row<Q>
     ensures { result.lots ≡ lots }
 {
-    Row {
-        number: number,
-        house: number,
-        quote: quote,
-        lots: lots,
-        standing: true,
-        allotted: 0,
-    }
+    Row::new(number, number, quote, lots)
 }
 
 // The number of a quote that may be absent.
@@ -222,16 +215,14 @@ fn a_table_shorter_than_the_rows_is_refused_and_left(rt: HostRuntime) -> Result<
     };
     let mut long = [7; 2];
     let mut short = [7; 1];
-    match award::<Rate, ProRata>(
+    let told = award::<Rate, ProRata>(
         Bids { rows: &rows },
         conditions,
         Rate::read(620)?,
         &mut long,
         &mut short,
-    ) {
-        Ok(_) => assert!(rt; false),
-        Err(fault) => assert_eq!(rt; fault.number(), 16),
-    }
+    );
+    assert!(rt; told.is_err_and(|fault| fault.number() == 16));
     assert_eq!(rt; long, [7, 7]);
     assert_eq!(rt; short, [7]);
     Ok(())

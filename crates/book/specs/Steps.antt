@@ -4,6 +4,7 @@ use Rattle.std.specs.Option.{option_map}
 use Rattle.terms.specs.Grounds.{first}
 use Rattle.award.specs.declared.row.Row.{Row}
 use Rattle.award.specs.Award.{cut_off, allotments}
+pub use Rattle.award.specs.Rows.{new_row}
 use Rattle.award.specs.Rows.{standing, by_row, given_to}
 use Rattle.book.specs.declared.event.Event.{Event}
 use Rattle.book.specs.declared.event.Event.TheVariants.{Entry, Change, Withdrawal, Close, Limit}
@@ -15,10 +16,6 @@ use Rattle.book.specs.Questions.{terms_of}
 use Rattle.book.specs.Sheets.{Sheet, in_use, past_of}
 
 module _ {Q : Type 0} where
-  -- a row for a bid that has just arrived
-  abbrev pub new_row : ℕ → ℕ → Q → ℕ → Row Q
-  new_row number house quote lots = record { number = number; house = house; quote = quote; lots = lots; standing = true; allotted = 0 }
-
   -- the bid of a row stands under a number
   abbrev pub stands_as : ℕ → Row Q → Bool
   stands_as n r = r.standing && r.number == n

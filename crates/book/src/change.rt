@@ -12,7 +12,7 @@ ghost use Rattle.book.specs.Books.{Becomes, objection};
 use crate::book::Book;
 use crate::event::Change;
 use crate::fault::BookFault;
-use crate::range::is_house;
+use crate::figures::is_house;
 use crate::sale::Sale;
 use award::row::Row;
 use terms::quote::Quote;
@@ -72,17 +72,9 @@ impl<'a, S: Sale> Book<'a, S> {
     {
         let last = (self.used - 1) as usize;
         self.close_gap(replacement.at);
-        self.put(
-            last,
-            Row {
-                number: change.number,
-                house: change.house,
-                quote: replacement.quote,
-                lots: change.lots,
-                standing: true,
-                allotted: 0,
-            },
-        );
+        let quote = replacement.quote;
+        let row = Row::new(change.number, change.house, quote, change.lots);
+        self.put(last, row);
         self.arrivals += 1;
         self.last = change.second;
     }

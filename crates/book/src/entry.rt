@@ -10,7 +10,7 @@ ghost use Rattle.book.specs.Books.{Becomes, objection};
 use crate::book::Book;
 use crate::event::Entry;
 use crate::fault::BookFault;
-use crate::range::is_house;
+use crate::figures::is_house;
 use crate::sale::Sale;
 use award::row::Row;
 use terms::quote::Quote;
@@ -53,14 +53,8 @@ impl<'a, S: Sale> Book<'a, S> {
     {
         let at = self.rows_used() as usize;
         let number = self.next_number();
-        self.rows[at] = Row {
-            number,
-            house: entry.house,
-            quote,
-            lots: entry.lots,
-            standing: true,
-            allotted: 0,
-        };
+        let row = Row::new(number, entry.house, quote, entry.lots);
+        self.rows[at] = row;
         self.used += 1;
         self.arrivals += 1;
         self.last = entry.second;

@@ -17,6 +17,13 @@ const MOST_ROWS: usize = 4_096;
 // The most arrival places that a book gives.
 const MOST_PLACES: u32 = 1_000_000;
 
+// Whether a house code is 1 to 9,999.
+pub(crate) fn is_house(house: u32) -> bool
+    ensures { result ≡ between 1 house 9_999 }
+{
+    (1..=9_999).contains(&house)
+}
+
 impl<'a, S: Sale> Book<'a, S> {
     // The notice on which the book was opened.
     pub fn notice(&self) -> Notice
@@ -39,7 +46,7 @@ impl<'a, S: Sale> Book<'a, S> {
         self.used
     }
 
-    // How many rows are used: each bid entered keeps its own.
+    // How many rows are used: each bid entered keeps its own. (A function for each count that the rules name, though all are one field.)
     pub(crate) fn rows_used(&self) -> u32
         ensures { result ≡ rows_used (past self.now) }
     {

@@ -1,5 +1,5 @@
 // Where the row of a bid is found.
-ghost use Rattle.std.specs.Prelude.{◌≡◌, ◌<◌, length, slice_index_or};
+ghost use Rattle.std.specs.Prelude.{◌≡◌};
 ghost use Rattle.book.specs.Places.{place_of};
 
 use award::row::Row;
@@ -10,12 +10,4 @@ pub(crate) fn find<Q: Copy>(rows: &[Row<Q>], number: u32) -> Option<usize>
 {
     rows.iter()
         .position(|row| row.standing && row.number == number)
-}
-
-// The row at a place.
-pub(crate) fn row_at<Q: Copy>(rows: &[Row<Q>], at: usize) -> Row<Q>
-    requires { at < length rows.now }
-    ensures { result ≡ slice_index_or rows.now at result }
-{
-    rows[at]
 }

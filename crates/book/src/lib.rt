@@ -13,7 +13,6 @@ pub mod limit;
 pub mod opening;
 pub mod outcome;
 pub mod questions;
-pub mod range;
 pub mod sale;
 pub mod state;
 pub mod take;

@@ -57,8 +57,7 @@ impl<'a, S: Sale> Book<'a, S> {
         let bids = Bids {
             rows: self.in_use(),
         };
-        let cut = award::<S::Quote, S::Rule>(bids, self.conditions(), limit, demands, shares)?;
-        Ok(cut)
+        Ok(award::<S::Quote, S::Rule>(bids, self.conditions(), limit, demands, shares)?)
     }
 
     // Writes the allotments into the used rows.
@@ -67,7 +66,7 @@ impl<'a, S: Sale> Book<'a, S> {
         ensures { Becomes self.old self.new (on_rows (view self.old) (given_to self.old.rows.now (take self.old.used lots.now))) }
     {
         let used = self.used as usize;
-        allot(self.rows, &lots[0..used]);
+        allot(self.rows, &lots[..used]);
     }
 
     // Takes a limit in a closed book.

@@ -14,8 +14,8 @@ ghost use Rattle.book.specs.Books.{Becomes, objection};
 use crate::book::Book;
 use crate::event::Withdrawal;
 use crate::fault::BookFault;
-use crate::find::{find, row_at};
-use crate::range::is_house;
+use crate::figures::is_house;
+use crate::find::find;
 use crate::sale::Sale;
 
 impl<'a, S: Sale> Book<'a, S> {
@@ -26,15 +26,15 @@ impl<'a, S: Sale> Book<'a, S> {
         find(self.in_use(), number)
     }
 
-    // Judges the naming of a bid by a house, and gives the place of its row.
+    // Judges the naming of a bid by a house, and gives the place of its row. (That a place is that of a bid stands in each contract, and in no
+    // type of places: such a type could not speak of the book that the place was found in.)
     pub(crate) fn judge_bid(&self, number: u32, house: u32) -> Result<usize, BookFault>
         ensures { Judgement (first (bid_grounds house (bid_of number (standing (in_use (view self.now)))))) (λ at. place_of number (in_use (view self.now)) ≡ Present at) result }
     {
         let Some(at) = self.place_of(number) else {
             return Err(BookFault::NoSuchBid);
         };
-        let row = row_at(self.rows, at);
-        if row.house != house {
+        if self.rows[at].house != house {
             return Err(BookFault::OtherHouse);
         }
         Ok(at)

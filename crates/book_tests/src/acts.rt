@@ -1,5 +1,5 @@
 // What a book tells after the award.
-use crate::events;
+use crate::events::{change, entry, put, withdrawal};
 use award::row::Row;
 use book::book::Book;
 use book::event::Event;
@@ -41,21 +41,9 @@ fn notice(
     }
 }
 
-// A row of no bid.
-fn blank<Q: Quote>(quote: Q) -> Row<Q> {
-    Row {
-        number: 0,
-        house: 0,
-        quote,
-        lots: 0,
-        standing: false,
-        allotted: 0,
-    }
-}
-
 // Enters a bid of a house.
 fn enter<S: Sale>(rt: &impl Abort, book: &mut Book<'_, S>, house: u32, quote: i32, lots: u32) {
-    assert!(rt; events::enter(book, house, 30_600, quote, lots).is_ok());
+    assert!(rt; put(book, entry(*b"SERIED03", house, 30_600, quote, lots)).is_ok());
 }
 
 // Closes the book and gives the limit.
@@ -63,7 +51,7 @@ fn award<S: Sale>(rt: &impl Abort, book: &mut Book<'_, S>, limit: i32) {
     let mut demands = [0; 4];
     let mut shares = [0; 4];
     assert_eq!(rt;
-        book.take(Event::Close { second: 46_800 }, &mut [], &mut []),
+        put(book, Event::Close { second: 46_800 }),
         Ok(0)
     );
     assert_eq!(rt;
@@ -81,7 +69,7 @@ fn cut_number<S: Sale>(book: &Book<'_, S>) -> Option<i32> {
 fn at_rates(rt: &impl Abort, middle: u32) -> Result<(Option<i32>, [u32; 3]), Fail> {
     let mut place = CheckedNotice::first();
     assert!(rt; check_notice::<Rate, ProRata>(&notice(1, 1, 1, 1), &mut place).is_ok());
-    let mut rows = [blank(Rate::read(0)?); 4];
+    let mut rows = [Row::blank(Rate::read(0)?); 4];
     let mut book: Book<'_, (Rate, ProRata)> = Book::open(place, &mut rows);
     enter(rt, &mut book, 10, 600, 60);
     enter(rt, &mut book, 45, 610, middle);
@@ -106,7 +94,7 @@ fn bids_at_rates_come_out_as_by_hand(rt: HostRuntime) -> Result<(), Fail> {
 fn bids_at_prices_come_out_as_by_hand(rt: HostRuntime) -> Result<(), Fail> {
     let mut place = CheckedNotice::first();
     assert!(rt; check_notice::<Price, ProRata>(&notice(2, 1, 1, 1), &mut place).is_ok());
-    let mut rows = [blank(Price::read(1)?); 2];
+    let mut rows = [Row::blank(Price::read(1)?); 2];
     let mut book: Book<'_, (Price, ProRata)> = Book::open(place, &mut rows);
     enter(&rt, &mut book, 10, 985_000, 60);
     enter(&rt, &mut book, 45, 984_000, 60);
@@ -121,7 +109,7 @@ fn bids_at_prices_come_out_as_by_hand(rt: HostRuntime) -> Result<(), Fail> {
 fn with_least(rt: &impl Abort, second: u32) -> Result<(Option<i32>, u64, [u32; 2]), Fail> {
     let mut place = CheckedNotice::first();
     assert!(rt; check_notice::<Rate, ProRata>(&notice(1, 1, 50, 2), &mut place).is_ok());
-    let mut rows = [blank(Rate::read(0)?); 2];
+    let mut rows = [Row::blank(Rate::read(0)?); 2];
     let mut book: Book<'_, (Rate, ProRata)> = Book::open(place, &mut rows);
     enter(rt, &mut book, 10, 600, 30);
     enter(rt, &mut book, 45, 610, second);
@@ -144,12 +132,12 @@ fn an_act_below_the_least_placement_is_void(rt: HostRuntime) -> Result<(), Fail>
 fn a_changed_bid_is_served_last(rt: HostRuntime) -> Result<(), Fail> {
     let mut place = CheckedNotice::first();
     assert!(rt; check_notice::<Rate, InArrivalOrder>(&notice(1, 2, 1, 1), &mut place).is_ok());
-    let mut rows = [blank(Rate::read(0)?); 3];
+    let mut rows = [Row::blank(Rate::read(0)?); 3];
     let mut book: Book<'_, (Rate, InArrivalOrder)> = Book::open(place, &mut rows);
     enter(&rt, &mut book, 10, 600, 60);
     enter(&rt, &mut book, 45, 600, 30);
     enter(&rt, &mut book, 2, 600, 30);
-    assert_eq!(rt; events::change(&mut book, 1, 10, 30_600, 600, 60), Ok(0));
+    assert_eq!(rt; put(&mut book, change(1, 10, 30_600, 600, 60)), Ok(0));
     award(&rt, &mut book, 600);
     assert_eq!(rt;
         [book.allotment(1)?, book.allotment(2)?, book.allotment(3)?],
@@ -162,13 +150,13 @@ fn a_changed_bid_is_served_last(rt: HostRuntime) -> Result<(), Fail> {
 fn questions_are_answered_from_the_award_on(rt: HostRuntime) -> Result<(), Fail> {
     let mut place = CheckedNotice::first();
     assert!(rt; check_notice::<Rate, ProRata>(&notice(1, 1, 1, 1), &mut place).is_ok());
-    let mut rows = [blank(Rate::read(0)?); 4];
+    let mut rows = [Row::blank(Rate::read(0)?); 4];
     let mut book: Book<'_, (Rate, ProRata)> = Book::open(place, &mut rows);
     enter(&rt, &mut book, 10, 600, 60);
     enter(&rt, &mut book, 45, 640, 30);
     enter(&rt, &mut book, 2, 610, 50);
     enter(&rt, &mut book, 7, 615, 20);
-    assert_eq!(rt; events::withdraw(&mut book, 1, 10, 30_600), Ok(0));
+    assert_eq!(rt; put(&mut book, withdrawal(1, 10, 30_600)), Ok(0));
     assert_eq!(rt; book.count(), 3);
     assert_eq!(rt; book.allotment(1), Err(BookFault::NotInThisState));
     assert_eq!(rt; book.outcome(9), Err(BookFault::NotInThisState));

@@ -1,8 +1,8 @@
 // What calls are answered.
-use crate::events;
+use crate::events::{change, entry, put, withdrawal};
 use award::row::Row;
 use book::book::Book;
-use book::event::{Change, Entry, Event, Withdrawal};
+use book::event::Event;
 use book::fault::BookFault;
 use std::process::Abort;
 use std::test::Fail;
@@ -34,34 +34,6 @@ fn refuses(event: Event, refusal: u8) -> Case {
     }
 }
 
-fn entry(series: [u8; 8], house: u32, second: u32, quote: i32, lots: u32) -> Event {
-    Event::Entry(Entry {
-        series,
-        house,
-        second,
-        quote,
-        lots,
-    })
-}
-
-fn change(number: u32, house: u32, second: u32, quote: i32, lots: u32) -> Event {
-    Event::Change(Change {
-        number,
-        house,
-        second,
-        quote,
-        lots,
-    })
-}
-
-fn withdrawal(number: u32, house: u32, second: u32) -> Event {
-    Event::Withdrawal(Withdrawal {
-        number,
-        house,
-        second,
-    })
-}
-
 // Puts each call to a book of rates, on the notice of SERIED03: offer 100, minimum 10, seconds 30,600 to 46,800.
 fn plays(
     rt: &impl Abort,
@@ -77,21 +49,9 @@ fn plays(
     }
 }
 
-// A row of no bid.
-fn blank() -> Result<Row<Rate>, Fail> {
-    Ok(Row {
-        number: 0,
-        house: 0,
-        quote: Rate::read(0)?,
-        lots: 0,
-        standing: false,
-        allotted: 0,
-    })
-}
-
 #[test]
 fn an_entry_is_judged_at_each_bound(rt: HostRuntime) -> Result<(), Fail> {
-    let mut rows = [blank()?; 7];
+    let mut rows = [Row::blank(Rate::read(0)?); 7];
     plays(
         &rt,
         &mut rows,
@@ -125,7 +85,7 @@ fn an_entry_is_judged_at_each_bound(rt: HostRuntime) -> Result<(), Fail> {
 
 #[test]
 fn a_change_and_a_withdrawal_are_judged_by_the_bid_they_name(rt: HostRuntime) -> Result<(), Fail> {
-    let mut rows = [blank()?; 4];
+    let mut rows = [Row::blank(Rate::read(0)?); 4];
     plays(
         &rt,
         &mut rows,
@@ -160,7 +120,7 @@ fn a_change_and_a_withdrawal_are_judged_by_the_bid_they_name(rt: HostRuntime) ->
 
 #[test]
 fn each_state_takes_its_own_calls(rt: HostRuntime) -> Result<(), Fail> {
-    let mut rows = [blank()?; 2];
+    let mut rows = [Row::blank(Rate::read(0)?); 2];
     plays(
         &rt,
         &mut rows,
@@ -215,19 +175,19 @@ fn without_rows_there_is_no_room(rt: HostRuntime) {
 
 #[test]
 fn a_million_arrival_places_are_given_and_no_more(rt: HostRuntime) -> Result<(), Fail> {
-    let mut rows = [blank()?; 2];
+    let mut rows = [Row::blank(Rate::read(0)?); 2];
     let mut book: Book<'_, (Rate, ProRata)> = Book::open(CheckedNotice::first(), &mut rows);
-    let _ = events::enter(&mut book, 10, 30_700, 620, 40);
+    let _ = put(&mut book, entry(*b"SERIED03", 10, 30_700, 620, 40));
     for _ in 0..999_998 {
-        let _ = events::change(&mut book, 1, 10, 30_700, 620, 40);
+        let _ = put(&mut book, change(1, 10, 30_700, 620, 40));
     }
-    assert_eq!(rt; events::change(&mut book, 1, 10, 30_700, 630, 40), Ok(0));
+    assert_eq!(rt; put(&mut book, change(1, 10, 30_700, 630, 40)), Ok(0));
     assert_eq!(rt;
-        events::change(&mut book, 1, 10, 30_700, 640, 40),
+        put(&mut book, change(1, 10, 30_700, 640, 40)),
         Err(BookFault::NoPlaceLeft)
     );
     assert_eq!(rt;
-        events::enter(&mut book, 10, 30_700, 620, 40),
+        put(&mut book, entry(*b"SERIED03", 10, 30_700, 620, 40)),
         Err(BookFault::NoPlaceLeft)
     );
     Ok(())

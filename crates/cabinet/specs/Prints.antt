@@ -11,6 +11,7 @@ use Rattle.terms.specs.Prices.{price_number, price_no_worse, read_price}
 use Rattle.terms.specs.ProRata.{pro_rata}
 use Rattle.terms.specs.Rates.{rate_number, rate_no_worse, read_rate}
 use Rattle.award.specs.declared.row.Row.{Row}
+pub use Rattle.award.specs.Rows.{blank_row}
 use Rattle.book.specs.Sheets.{opened}
 use Rattle.wire.specs.declared.call.Call.TheVariants.{Opening}
 use Rattle.wire.specs.declared.fault.ReadFault.{ReadFault}
@@ -29,10 +30,6 @@ use Rattle.cabinet.specs.Acts.{act_print}
 -- the refusals, and that there is no act
 abbrev pub without_act : List Refusal → List ℕ
 without_act refusals = texts refusal_line refusals ++ no_act_line
-
--- a row of no bid
-abbrev pub blank_row : {Q : Type 0} → Q → Row Q
-blank_row q = record { number = 0; house = 0; quote = q; lots = 0; standing = false; allotted = 0 }
 
 -- A sale with this kind of quote and this sharing rule: their codes, the kind's word, and the rows of the book.
 module _ {Q : Type 0} (number : Q → ℤ) (read : ℤ → Option Q) (no_worse : Q → Q → Bool) (share : List ℕ → ℕ → List ℕ) (kind rule : ℕ) (word : List ℕ) (rows : List (Row Q)) (bytes : List ℕ) where

@@ -1,5 +1,5 @@
 // A session from its first message to its last.
-ghost use Rattle.std.specs.Prelude.{◌≡◌, ◌≤◌, [], length};
+ghost use Rattle.std.specs.Prelude.{◌≡◌, ◌≤◌, length};
 ghost use Rattle.book.specs.Books.{Becomes};
 ghost use Rattle.cabinet.specs.Tables.{as_list};
 ghost use Rattle.cabinet.specs.Attended.{refusal_of, refusals_in, goes_past, goes_on};
@@ -15,6 +15,13 @@ use wire::reader::Reader;
 
 // The most messages that 65,536 bytes hold: the shortest has eight.
 const MOST_MESSAGES: usize = 8_192;
+
+// A refusal that is not told yet.
+const NO_REFUSAL: Refusal = Refusal {
+    ordinal: 0,
+    number: 0,
+    place: 0,
+};
 
 // The refusals of a session.
 pub(crate) type Log = Listed<Refusal, MOST_MESSAGES>;
@@ -43,11 +50,7 @@ fn refusal_in(answer: Result<Option<u32>, SessionFault>) -> Option<Refusal>
 fn goes_past(fault: LowerFault) -> bool
     ensures { result ≡ goes_past fault }
 {
-    match fault {
-        LowerFault::Read(_) => false,
-        LowerFault::Notice(_) => true,
-        LowerFault::Book(_) => true,
-    }
+    !matches!(fault, LowerFault::Read(_))
 }
 
 // Whether the reading goes on after an answer.
@@ -60,25 +63,24 @@ fn goes_on(answer: Result<Option<u32>, SessionFault>) -> bool
     }
 }
 
-// Reads the messages that are left, at most 8,192, and puts each to the book; a refusal by the reader stops the reading. The refusals then stand
-// in the log.
+// Reads the messages that are left, at most 8,192, and puts each to the book; a refusal by the reader stops the reading. Gives the refusals.
 pub(crate) fn attend<S: Sale>(
     reader: &mut Reader<'_>,
     book: &mut Book<'_, S>,
     demands: &mut [u32],
     shares: &mut [u32],
-    log: &mut Log,
-)
-    requires { log.old ≡ [] }
-    ensures few { length log.new ≤ 8_192 }
-    ensures refusals { log.new ≡ refusals_on book.old (length demands.old) (length shares.old) reader.old }
+) -> Log
+    ensures few { length result ≤ 8_192 }
+    ensures refusals { result ≡ refusals_on book.old (length demands.old) (length shares.old) reader.old }
     ensures book { Becomes book.old book.new (sheet_after book.old (length demands.old) (length shares.old) reader.old) }
 {
+    let mut log = Log::new(NO_REFUSAL);
     for turn in 0..MOST_MESSAGES {
         let answer = attend_one(reader, book, demands, shares);
         log.append(refusal_in(answer));
         if !goes_on(answer) {
-            return;
+            return log;
         }
     }
+    log
 }

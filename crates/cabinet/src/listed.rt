@@ -4,7 +4,7 @@ ghost use Rattle.cabinet.specs.Tables.{as_list};
 
 use std::marker::Model;
 
-// A list of at most N items, which takes no memory but its own.
+// A list of at most N items, which takes no memory but its own. (The kit's `arrayvec` has such a list; the project takes no crate beside std.)
 #[derive(Drop)]
 pub(crate) struct Listed<T: Copy, const N: usize> {
     places: [T; N],

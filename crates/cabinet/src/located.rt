@@ -1,4 +1,5 @@
-// A fault with the ordinal and the byte place of what it is about, on its way to the session's fault.
+// A fault with the ordinal and the byte place of what it is about, on its way to the session's fault. (The session's fault is a type of its own and
+// not a `Located`: the `From` below would overlap with that of a type from itself.)
 ghost use Rattle.std.specs.Prelude.{◌≡◌};
 ghost use Rattle.cabinet.specs.Faults.{located};
 

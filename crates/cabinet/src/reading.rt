@@ -18,12 +18,9 @@ pub(crate) fn read(
 {
     let ordinal = reader.passed();
     let place = reader.place();
-    match reader.next(call) {
-        Ok(message) => Ok(message),
-        Err(fault) => Err(Located {
-            ordinal,
-            place: place + fault.offset(),
-            fault,
-        }),
-    }
+    reader.next(call).map_err(|fault| Located {
+        ordinal,
+        place: place + fault.offset(),
+        fault,
+    })
 }

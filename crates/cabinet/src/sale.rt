@@ -8,7 +8,7 @@ ghost use Rattle.print.specs.Lines.{no_act_line};
 ghost use Rattle.cabinet.specs.Prints.{without_act, blank_row, session_print, sale_print};
 
 use crate::act::write_with;
-use crate::attend::{Log, attend};
+use crate::attend::attend;
 use crate::fault::SessionFault;
 use crate::notice::open_notice;
 use award::row::Row;
@@ -23,20 +23,6 @@ use wire::reader::Reader;
 
 // How many rows a book has, and how many places its work tables.
 pub(crate) const ROWS: usize = 1_024;
-
-// A row of no bid.
-pub(crate) fn blank<Q: Quote>(quote: Q) -> Row<Q>
-    ensures { result ≡ blank_row quote }
-{
-    Row {
-        number: 0,
-        house: 0,
-        quote,
-        lots: 0,
-        standing: false,
-        allotted: 0,
-    }
-}
 
 // Writes one refusal, and that there is no act.
 pub(crate) fn write_refused(refusal: Refusal, space: &mut [u8]) -> Result<usize, WriteFault>
@@ -58,13 +44,8 @@ fn print_session<Q: Quote, R: SharingRule + Drop>(
 {
     let mut demands = [0; ROWS];
     let mut shares = [0; ROWS];
-    let mut log = Log::new(Refusal {
-        ordinal: 0,
-        number: 0,
-        place: 0,
-    });
     let mut book: Book<'_, (Q, R)> = Book::open(notice, rows);
-    attend(reader, &mut book, &mut demands, &mut shares, &mut log);
+    let log = attend(reader, &mut book, &mut demands, &mut shares);
     write_with(log.as_slice(), &book, space)
 }
 

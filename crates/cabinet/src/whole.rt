@@ -1,4 +1,5 @@
-// The whole print of an input.
+// The whole print of an input. (Each function says in one clause what it writes and in another which space suffices, as in `sale`: the next one
+// builds on both.)
 ghost use Rattle.std.specs.Prelude.{◌≡◌, length, take};
 ghost use Rattle.cabinet.specs.Tables.{Suffices};
 ghost use Rattle.wire.specs.declared.call.Call.TheVariants.{Opening};
@@ -9,7 +10,8 @@ ghost use Rattle.cabinet.specs.Prints.{rate_print, price_print, print_by, print_
 
 use crate::fault::{LowerFault, SessionFault};
 use crate::notice::fields_of;
-use crate::sale::{ROWS, blank, print_sale, write_refused};
+use crate::sale::{ROWS, print_sale, write_refused};
+use award::row::Row;
 use print::refusal::Refusal;
 use print::writer::write_no_act;
 use terms::arrival::InArrivalOrder;
@@ -25,8 +27,6 @@ use wire::reader::Reader;
 
 // The most bytes of an input that are read.
 const MOST_INPUT: usize = 65_536;
-
-// (Each function below says in one clause what it writes and in another which space suffices, since the next one builds on both.)
 
 // The codes of the kinds and of the rules.
 const RATE: u8 = Rate::CODE;
@@ -49,7 +49,7 @@ fn print_rates<R: SharingRule + Drop>(bytes: &[u8], space: &mut [u8]) -> Result<
     ensures written { Writes (rate_print R.SharingRule.meaning R.SharingRule.CODE bytes.now) space.old space.new result }
     ensures enough { Suffices (length space.old) result }
 {
-    let mut rows = [blank(Rate::lowest()); ROWS];
+    let mut rows = [Row::blank(Rate::lowest()); ROWS];
     print_sale::<Rate, R>(bytes, &mut rows, space)
 }
 
@@ -58,7 +58,7 @@ fn print_prices<R: SharingRule + Drop>(bytes: &[u8], space: &mut [u8]) -> Result
     ensures written { Writes (price_print R.SharingRule.meaning R.SharingRule.CODE bytes.now) space.old space.new result }
     ensures enough { Suffices (length space.old) result }
 {
-    let mut rows = [blank(Price::lowest()); ROWS];
+    let mut rows = [Row::blank(Price::lowest()); ROWS];
     print_sale::<Price, R>(bytes, &mut rows, space)
 }
 

@@ -41,9 +41,7 @@ fn bytes_that_are_no_message_stop_the_reading(rt: HostRuntime) -> Result<(), Fai
         bytes.as_slice(),
         b"REFUSED 2 1 63\nNO ACT\n",
     )?;
-    bytes.push(2)?;
-    bytes.push(2)?;
-    bytes.push(4)?;
+    bytes.extend_from_slice(&[2, 2, 4])?;
     prints_bytes(
         &rt,
         rt.alloc(),

@@ -1,4 +1,4 @@
-// A place in a lent space.
+// A place in a lent space. (Not `std::io::Cursor`: its errors would say less than where the space ends.)
 ghost use Rattle.std.specs.Prelude.{◌≤◌, length};
 
 #[derive(Drop)]

@@ -1,5 +1,5 @@
 // Decimal numbers, digit by digit. They are written by hand: `Display` tells its exact text only through a String, which
-// needs a heap, and the repository stands on std alone.
+// needs a heap, and the project takes no crate beside std.
 ghost use Rattle.std.specs.Prelude.{◌≡◌, ◌+◌, ◌%◌, decimal};
 ghost use Rattle.std.specs.Fmt.{signed_decimal};
 ghost use Rattle.print.specs.Sinks.{Takes};

@@ -4,7 +4,7 @@
 pub struct Refusal {
     // the ordinal of the message that was refused
     pub ordinal: usize,
-    // the number of the ground against it: the faults of all layers are printed, and their types lie above this crate
+    // the number of the ground against it (a number: the enum of the faults of all layers lies above this crate)
     pub number: u8,
     // the place of the byte that the refusal is about
     pub place: usize,

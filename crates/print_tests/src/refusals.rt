@@ -44,9 +44,6 @@ fn a_space_one_byte_short_is_refused_with_19_and_left(rt: HostRuntime) {
     assert!(rt; write_refusal(&refusal, &mut enough).is_ok());
     assert!(rt; &enough == b"REFUSED 0 1 0\n");
     let mut short = [238u8; 13];
-    match write_refusal(&refusal, &mut short) {
-        Ok(_) => assert!(rt; false),
-        Err(fault) => assert!(rt; fault.number() == 19),
-    }
+    assert!(rt; write_refusal(&refusal, &mut short).is_err_and(|fault| fault.number() == 19));
     assert!(rt; short == [238u8; 13]);
 }

@@ -28,7 +28,7 @@ pub enum Call {
 }
 
 // The answer to a call that is not refused.
-#[derive(Clone, Copy)]
+#[derive(Clone, Copy, PartialEq, Eq, Debug)]
 pub enum Answer<Q> {
     // An event was accepted, with this answer: an entry's number, else 0.
     Accepted(u32),

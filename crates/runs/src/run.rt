@@ -17,7 +17,7 @@ use terms::checked::CheckedNotice;
 const MOST_BIDS: usize = 4_096;
 
 // The two work tables of a run.
-#[derive(Clone, Copy)]
+#[derive(Drop)]
 struct Tables {
     demands: [u32; MOST_BIDS],
     shares: [u32; MOST_BIDS],

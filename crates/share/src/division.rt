@@ -32,31 +32,32 @@ pub struct Division {
     pub demands: Vec<u32>,
 }
 
-// The rule that the first word names.
-fn rule_of(heap: Global, word: &str) -> Result<Rule, Complaint> {
-    match word.parse::<Rule>() {
-        Ok(rule) => Ok(rule),
-        Err(NoRule) => Err(Complaint::NotARule(1, String::from_str(heap, word)?)),
-    }
-}
-
-// The number of the word at a place.
-fn number_of(heap: Global, place: usize, word: &str) -> Result<u32, Complaint> {
-    match word.parse::<u32>() {
-        Ok(number) => Ok(number),
-        Err(_) => Err(Complaint::NotANumber(place, String::from_str(heap, word)?)),
+// What the word at a place says, or the complaint that it does not.
+fn said<T: FromStr, C: FnOnce(usize, String) -> Complaint>(
+    heap: Global,
+    place: usize,
+    word: &str,
+    complaint: C,
+) -> Result<T, Complaint>
+where
+    T::Err: Drop,
+{
+    match word.parse::<T>() {
+        Ok(value) => Ok(value),
+        Err(_) => Err(complaint(place, String::from_str(heap, word)?)),
     }
 }
 
 // The rule, the balance and the demands.
 pub fn read(heap: Global, words: &[String]) -> Result<Division, Complaint> {
     let first = words.first().ok_or(Complaint::NoRule)?;
-    let rule = rule_of(heap, first.as_str())?;
+    let rule = said(heap, 1, first.as_str(), Complaint::NotARule)?;
     let second = words.get(1).ok_or(Complaint::NoBalance)?;
-    let balance = number_of(heap, 2, second.as_str())?;
+    let balance = said(heap, 2, second.as_str(), Complaint::NotANumber)?;
     let mut demands = Vec::new(heap);
     for (i, word) in words.iter().enumerate().skip(2) {
-        demands.push(number_of(heap, i.saturating_add(1), word.as_str())?)?;
+        let place = i.saturating_add(1);
+        demands.push(said(heap, place, word.as_str(), Complaint::NotANumber)?)?;
     }
     Ok(Division {
         rule,

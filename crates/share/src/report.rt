@@ -31,7 +31,8 @@ pub fn run(heap: Global, words: &[String]) -> Result<String, Complaint> {
     }
 }
 
-// Fills one table with the first shares, where the rule has any, and the other with the shares.
+// Fills one table with the first shares, where the rule has any, and the other with the shares. (Tables beside the demands, since a rule fills a
+// lent table of numbers.)
 fn divide(division: &Division, firsts: &mut [u32], shares: &mut [u32]) -> Result<(), ShareFault>
     requires { length firsts.old ≡ length shares.old }
     ensures refused { refused result ≡ first (share_grounds division.now.demands.items division.now.balance (length shares.old)) }

@@ -7,7 +7,7 @@ use crate::checked::CheckedNotice;
 use crate::fault::NoticeFault;
 use crate::notice::{Notice, NoticeFields};
 use crate::quote::Quote;
-use crate::sharing::SharingRule;
+use crate::sharing::{MOST_LOTS, SharingRule};
 
 impl CheckedNotice {
     // The notice that a place for a checked notice starts with.
@@ -33,7 +33,8 @@ impl CheckedNotice {
     }
 }
 
-// Checks a notice for a kind of quote and a sharing rule. The place then holds it, without its codes; a refusal leaves the place as it was.
+// Checks a notice for a kind of quote and a sharing rule. The place then holds it, without its codes; a refusal leaves the place as it was. (It
+// is a rule of the project that the caller lends the place.)
 pub fn check_notice<Q: Quote, R: SharingRule>(
     fields: &NoticeFields,
     place: &mut CheckedNotice,
@@ -70,7 +71,7 @@ fn series_fits(series: &[u8]) -> bool
 fn numbers_fit(notice: &Notice) -> bool
     ensures { result ≡ numbers_fit notice.now }
 {
-    (1..=1_000_000_000).contains(&notice.offer)
+    (1..=MOST_LOTS).contains(&notice.offer)
         && (1..=notice.offer).contains(&notice.minimum)
         && (1..=notice.offer).contains(&notice.least_placement)
         && (1..=2).contains(&notice.least_number)

@@ -1,4 +1,5 @@
-// Why a number is no quote, why demands are not shared, and why a notice is not taken; each refusal has a number.
+// Why a number is no quote, why demands are not shared, and why a notice is not taken; each refusal has a number. (Each fault, here and in the
+// other crates, has its own `number`: a trait cannot say `self as u8` for all of them.)
 ghost use Rattle.std.specs.Prelude.{◌≡◌};
 ghost use Rattle.terms.specs.Faults.{quote_fault_number, share_fault_number, notice_fault_number};
 

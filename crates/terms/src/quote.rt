@@ -43,6 +43,7 @@ pub trait Quote: Copy {
     fn number(self) -> i32
         ensures { result ≡ number self };
 
+    // (Not `PartialOrd`: it is the issuer's order, which is turned round for a rate, and has the laws below.)
     fn no_worse(self, other: Self) -> bool
         ensures { result ≡ no_worse self other };
 

@@ -39,10 +39,7 @@ fn a_price_is_1_to_1_500_000(rt: HostRuntime) {
 
 // Whether the first of two numbers is no worse than the second, as quotes of a kind.
 fn no_worse<Q: Quote>(first: i32, second: i32) -> Option<bool> {
-    match (Q::read(first), Q::read(second)) {
-        (Ok(a), Ok(b)) => Some(a.no_worse(b)),
-        _ => None,
-    }
+    Some(Q::read(first).ok()?.no_worse(Q::read(second).ok()?))
 }
 
 #[test]

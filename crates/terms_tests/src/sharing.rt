@@ -8,7 +8,7 @@ fn answer<R: SharingRule>(balance: u32, demands: &[u32], shares: &mut [u32]) -> 
     R::share(balance, demands, shares).map_err(|fault| fault.number())
 }
 
-// The first three shares of a rule in a table of five that held 7s.
+// The table of five places that held 7s, after a rule has shared.
 fn shares<R: SharingRule>(balance: u32, demands: &[u32]) -> [u32; 5] {
     let mut table = [7; 5];
     let _ = R::share(balance, demands, &mut table);

@@ -16,8 +16,11 @@ fn told(answer: Result<Option<Message>, ReadFault>) -> Told {
 // What a call makes of the bytes, with the reader's place and count afterwards.
 fn read(bytes: &[u8], call: Call) -> (Told, usize, usize) {
     let mut reader = Reader::new(bytes);
-    let answer = told(reader.next(call));
-    (answer, reader.place(), reader.passed())
+    let answer = match call {
+        Call::Opening => reader.notice(),
+        Call::Session => reader.event(),
+    };
+    (told(answer), reader.place(), reader.passed())
 }
 
 #[test]

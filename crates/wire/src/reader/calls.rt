@@ -1,5 +1,5 @@
 // The calls that read a message and pass it. At the end there is none; a refusal leaves the reader as it was.
-// (`notice` and `event` are `next` with its call in the name, for those who only ever want the one.)
+// (`notice` and `event` are `next` with its call in the name: each is a promise of its own, in one line.)
 ghost use Rattle.std.specs.Prelude.{◌≡◌, ◌+◌, length};
 ghost use Rattle.wire.specs.Reads.{Reads, ahead};
 ghost use Rattle.wire.specs.declared.call.Call.TheVariants.{Opening, Session};

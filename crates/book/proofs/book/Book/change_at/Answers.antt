@@ -1,4 +1,5 @@
 use Rattle.std.proofs.Common.{◌+◌, ◌-◌, set, ap, ◌∙◌, arith}
+use Rattle.award.specs.declared.row.Row.{Row}
 use Rattle.book.specs.Sheets.{Sheet}
 use Rattle.book.specs.Steps.{new_row}
 use Rattle.book.specs.Places.{on_rows}
@@ -22,7 +23,7 @@ put-requires g c =
     let below = found_below c.args.change.number old.used old.rows.now old.fit c.args.replacement.at c.requires.found in
     let used = ap (λ (s : Sheet g.row.S-Quote.Denot). s.used) c.close_gap.ensures.after in
     let fit = c.close_gap.new.self.fit in
-    record { place = omega arith; lots = c.requires.lots }
+    record { place = omega arith; lots = rw c.new-row.ensures c.requires.lots }
 
 pub invariant_of-self : goal.invariant_of-self
 invariant_of-self g c =
@@ -36,7 +37,9 @@ returns g c =
     let old = c.args.self.now in
     let row = new_row c.args.change.number c.args.change.house c.args.replacement.quote c.args.change.lots in
     let rows = moved_last c.args.change.number old.used old.rows.now old.fit c.args.replacement.at c.requires.found row in
-    let after = c.put.ensures.after ∙ ap (λ (s : Sheet g.row.S-Quote.Denot). on_rows s (set s.rows (old.used - 1) row)) c.close_gap.ensures.after
+    let moved = c.close_gap.new.self in
+    let after = c.put.ensures.after ∙ ap (λ (r : Row g.row.S-Quote.Denot). on_rows (view moved) (set moved.rows.now (old.used - 1) r)) c.new-row.ensures
+    ∙ ap (λ (s : Sheet g.row.S-Quote.Denot). on_rows s (set s.rows (old.used - 1) row)) c.close_gap.ensures.after
     ∙ ap (on_rows (view old)) rows in
     record {
       after = ap (λ (s : Sheet g.row.S-Quote.Denot). record {
