@@ -3,7 +3,7 @@ use Rattle.std.proofs.Common.{nat_lt, ◌≡◌, ℕ, zero, suc, ◌+◌, ◌<�
 use Rattle.std.specs.Option.{option_map}
 use Rattle.std.specs.List.{remove, position, position_or_len}
 use Rattle.std.proofs.lemmas.List.{get_or-take, length-take-le}
-use Rattle.std.proofs.lemmas.Bool.{and_parts, eqb-true}
+use Rattle.std.proofs.lemmas.Bool.{and_parts}
 use Rattle.std.proofs.lemmas.Bool.Decides.{nat_tests}
 use Rattle.award.specs.declared.row.Row.{Row}
 use Rattle.award.specs.Award.{Bid}
@@ -53,12 +53,6 @@ module _ {Q : Type 0} (n : ℕ) where
   at_below [] at a = absurd a
   at_below (r ∷ rows) zero a = omega arith
   at_below (r ∷ rows) (suc at) a = let h = at_below rows at a.1 in omega arith
-
-  -- its bid stands under the number
-  pub at_number : (rows : List (Row Q)) (at : ℕ) (d : Row Q) → At rows at → (get_or rows at d).number ≡ n
-  at_number [] at d a = absurd a
-  at_number (r ∷ rows) zero d a = eqb-true r.number n (and_parts r.standing (eqb r.number n) a).1
-  at_number (r ∷ rows) (suc at) d a = at_number rows at d a.1
 
   heads : (r : Row Q) (bids : List (Bid Q)) → stands_as n r ≡ true → bid_of n (cond r.standing (bid_in r ∷ bids) bids) ≡ Some (bid_in r)
   heads r bids is = let both = and_parts r.standing (eqb r.number n) is in rw (both.0, both.1) refl

@@ -10,10 +10,6 @@ use Rattle.book.specs.Places.{place_of, closing}
 use Rattle.book.proofs.Finding.{at_without, at_withdrawn, found_at, found_below}
 
 module _ {Q : Type 0} (rows : List (Row Q)) (used : ℕ) where
-  -- other rows in front, as many as before
-  pub front_written : (front : List (Row Q)) → length front ≡ used → front ++ drop used rows ≡ rows_with front rows
-  front_written front e = ap (λ k. front ++ drop k rows) (sym e)
-
   -- the row behind the last used one is written
   pub next_written : (at : ℕ) (r : Row Q) → at ≡ used → used < length rows → set rows at r ≡ rows_with (take used rows ++ r ∷ []) rows
   next_written at r e room =

@@ -1,5 +1,5 @@
 -- The whole print: which bytes are printed for which input.
-use Rattle.std.specs.Prelude.{ℕ, Bool, false, cond, ◌&&◌, List, [], ◌∷◌, ◌++◌, take, replicate, ℤ, pos, Some, None, Ok, Err, codes, Option, Result, ◌==◌, refl}
+use Rattle.std.specs.Prelude.{ℕ, Bool, cond, ◌&&◌, List, [], ◌∷◌, ◌++◌, take, replicate, ℤ, pos, Some, None, Ok, Err, codes, Option, Result, ◌==◌, refl}
 use Rattle.terms.specs.declared.fault.NoticeFault.TheVariants.{AgainstRules}
 use Rattle.terms.specs.declared.notice.Notice.{Notice}
 use Rattle.terms.specs.declared.notice.NoticeFields.{NoticeFields}

@@ -1,5 +1,5 @@
 -- A whole run: the answers of the book are those of the rules, and the law holds at each moment.
-use Rattle.std.proofs.Common.{◌≡◌, ℕ, ◌≤◌, min, Bool, true, not, ◌||◌, ltb, List, [], ◌∷◌, ◌++◌, length, get_or, map, take, ℤ, is_some, Some, Option, Result, sym, refl, ap, ◌∙◌, subst, arith}
+use Rattle.std.proofs.Common.{◌≡◌, ℕ, Bool, true, List, [], ◌∷◌, ◌++◌, length, get_or, map, take, ℤ, Some, Option, Result, sym, refl, ap, ◌∙◌, subst, arith}
 use Rattle.std.proofs.lemmas.Bool.{and_from}
 use Rattle.std.proofs.lemmas.Bool.Decides.{nat_tests}
 use Rattle.terms.specs.declared.notice.Notice.{Notice}
@@ -7,16 +7,11 @@ use Rattle.terms.specs.declared.checked.CheckedNotice.{CheckedNotice}
 use Rattle.terms.specs.Quotes.{Lawful}
 use Rattle.terms.specs.Sharing.{Fair, few, lots_fit}
 use Rattle.terms.specs.Notices.{notice_fits, numbers_fit, series_fits}
-use Rattle.terms.specs.Grounds.{when, first}
 use Rattle.award.specs.declared.row.Row.{Row}
 use Rattle.award.specs.Rows.{standing}
-use Rattle.book.specs.declared.event.Event.{Event}
-use Rattle.book.specs.declared.event.Event.TheVariants.{Entry, Change, Withdrawal, Close, Limit}
 use Rattle.book.specs.declared.fault.BookFault.{BookFault}
-use Rattle.book.specs.declared.fault.BookFault.TheVariants.{NotInThisState, QuoteOutOfRange, ShortTable}
-use Rattle.book.specs.Table.{Past, opening_past, awaits_limit}
-use Rattle.book.specs.Sheets.{Sheet, phase_of, past_of, opened}
-use Rattle.book.specs.Steps.{judged, effect, step}
+use Rattle.book.specs.Table.{Past, opening_past}
+use Rattle.book.specs.Sheets.{Sheet, past_of, opened}
 use Rattle.runs.specs.declared.call.Call.{Call}
 use Rattle.runs.specs.declared.call.Answer.{Answer}
 use Rattle.runs.specs.declared.call.Exchange.{Exchange}
@@ -49,34 +44,6 @@ answered_at read no_worse share notice table (b ∷ before) c after unmade p =
     answered_at read no_worse share notice table before c after unmade (past_with read no_worse share notice table p b)
 
 module _ {Q : Type 0} (number : Q → ℤ) (read : ℤ → Option Q) (no_worse : Q → Q → Bool) (share : List ℕ → ℕ → List ℕ) where
-  -- no more than 4,096 bids are entered, so that a longer work table is judged as one of 4,096 places
-  table_cut : (one other used : ℕ) → used ≤ 4_096 → (ltb (min one 4_096) used || ltb (min other 4_096) used) ≡ (ltb one used || ltb other used)
-  table_cut one other used h = grind (arith, nat_tests)
-
-  step_cut : (one other : ℕ) (s : Sheet Q) (e : Event) → s.used ≤ 4_096
-      → step number read no_worse share (min one 4_096) (min other 4_096) s e ≡ step number read no_worse share one other s e
-  step_cut one other s (Entry e) h = refl
-  step_cut one other s (Change e) h = refl
-  step_cut one other s (Withdrawal e) h = refl
-  step_cut one other s (Close second) h = refl
-  step_cut one other s (Limit quote) h =
-      ap
-      (λ v.
-      judged
-      (first
-      (when (not (awaits_limit (phase_of s.state))) NotInThisState
-      ∷ when (not (is_some (read quote))) QuoteOutOfRange
-      ∷ when v ShortTable
-      ∷ []))
-      s (effect number read no_worse share s (Limit quote)) 0)
-      (table_cut one other s.used h)
-
-  -- work tables of as many places as are named, or of 4,096
-  pub step_named : (one other demands shares : ℕ) (s : Sheet Q) (e : Event) → s.used ≤ 4_096 → demands ≡ min one 4_096 → shares ≡ min other 4_096
-      → step number read no_worse share demands shares s e ≡ step number read no_worse share one other s e
-  step_named one other demands shares s e h d t =
-      ap (λ n. step number read no_worse share n shares s e) d ∙ ap (λ n. step number read no_worse share (min one 4_096) n s e) t ∙ step_cut one other s e h
-
   -- the calls stay
   pub exchanged_calls : (xs : List (Exchange Q)) (s : Sheet Q)
       → calls_of (exchanged number read no_worse share s xs) ≡ calls_of xs

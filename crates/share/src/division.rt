@@ -41,6 +41,7 @@ fn said<T: FromStr, C: FnOnce(usize, String) -> Complaint>(
 ) -> Result<T, Complaint>
 where
     T::Err: Drop,
+    requires { C.IsAlwaysCallable complaint }
 {
     match word.parse::<T>() {
         Ok(value) => Ok(value),
