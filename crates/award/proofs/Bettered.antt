@@ -1,5 +1,6 @@
 -- The award cannot be bettered.
 use Rattle.std.proofs.Common.{◌≡◌, ℕ, ◌+◌, ◌<◌, ◌≤◌, min, Bool, true, false, cond, not, ◌&&◌, ◌||◌, ltb, leb, List, length, ℤ, Some, None, sum, Option, sym, refl, ap, ◌∙◌, subst, inl, inr, arith}
+use Rattle.std.proofs.lemmas.Option.{none-some}
 use Rattle.std.specs.List.{AllByRecursion as All}
 use Rattle.std.proofs.lemmas.List.Sums.{sum-map}
 use Rattle.std.proofs.lemmas.Bool.{both_ways, or_cases, or_parts, ltb-true, ltb-false, leb-true, leb-false, le-leb, cond-true, cond-false, and_parts}
@@ -235,15 +236,12 @@ module _ {Q : Type 0} {number : Q → ℤ} {low high : ℤ} {no_worse : Q → Q 
     ByCut given placed None = VoidGround no_worse t limit bids × Voided given placed
     ByCut given placed (Some cut) = (VoidGround no_worse t limit bids → ⊥) × Awarded no_worse t limit bids given placed cut
 
-    none_some : (c : Q) → None ≡ Some c → ⊥
-    none_some c e = let z : ◌≡◌ {A = ℕ} 0 1 = cc in omega arith
-
     act : (given : ℕ → ℕ) (placed : ℕ) (cut : Option Q) → ByCut given placed cut → Act no_worse t limit bids given placed cut
-    act given placed None h = record { void_exactly = (λ _. h.0, λ _. refl); voided = λ _. h.1; awarded = λ c e. absurd (none_some c e) }
+    act given placed None h = record { void_exactly = (λ _. h.0, λ _. refl); voided = λ _. h.1; awarded = λ c e. absurd (none-some c e) }
     act given placed (Some cut) h =
         record {
-          void_exactly = (λ e. absurd (none_some cut (sym e)), λ g. absurd (h.0 g));
-          voided = λ e. absurd (none_some cut (sym e));
+          void_exactly = (λ e. absurd (none-some cut (sym e)), λ g. absurd (h.0 g));
+          voided = λ e. absurd (none-some cut (sym e));
           awarded = λ c e. (let is : cut ≡ c = cc in subst (λ c. Awarded no_worse t limit bids given placed c) is h.1);
         }
 

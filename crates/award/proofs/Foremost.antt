@@ -1,5 +1,6 @@
 -- What `foremost` finds: a quote of a bid that is such, and that comes before all others that are.
 use Rattle.std.proofs.Common.{◌≡◌, Bool, true, false, cond, List, [], ◌∷◌, Some, None, Option, sym, refl, ap, ◌∙◌, inl, inr}
+use Rattle.std.proofs.lemmas.Option.{none-some}
 use Rattle.std.specs.List.{AllByRecursion as All}
 use Rattle.std.proofs.lemmas.Bool.{both_ways}
 use Rattle.award.specs.Award.{Bid, foremost, earlier}
@@ -58,10 +59,7 @@ module _ {Q : Type 0} (before : Q → Q → Bool) (such : Q → Bool) where
 
   -- the quote found is such, in whatever order
   pub finds_such : (bids : List (Bid Q)) (c : Q) → foremost before such bids ≡ Some c → such c ≡ true
-  finds_such [] c e = absurd (none_some c e)
-    where
-      none_some : (c : Q) → None ≡ Some c → ⊥
-      none_some c e = both_ways false refl (cc)
+  finds_such [] c e = absurd (none-some c e)
   finds_such (b ∷ bids) c e = go (such b.quote) refl (foremost before such bids) (finds_such bids c) e
     where
       which : (r : Q) (v : Bool) → such b.quote ≡ true → (Some r ≡ Some c → such c ≡ true) → cond v b.quote r ≡ c → such c ≡ true

@@ -1,9 +1,10 @@
 -- The place of the row whose bid stands under a number.
-use Rattle.std.proofs.Common.{nat_lt, ◌≡◌, ℕ, zero, suc, ◌+◌, ◌<◌, ◌≤◌, Bool, true, false, cond, ◌&&◌, eqb, List, [], ◌∷◌, length, get_or, take, set, Some, None, Option, refl, ap, ◌∙◌, arith}
+use Rattle.std.proofs.Common.{nat_lt, ◌≡◌, ℕ, zero, suc, ◌+◌, ◌<◌, ◌≤◌, Bool, true, false, cond, ◌&&◌, eqb, List, [], ◌∷◌, length, get_or, take, set, Some, None, Option, sym, refl, ap, ◌∙◌, arith}
+use Rattle.std.proofs.lemmas.Option.{none-some}
 use Rattle.std.specs.Option.{option_map}
 use Rattle.std.specs.List.{remove, position, position_or_len}
 use Rattle.std.proofs.lemmas.List.{get_or-take, length-take-le}
-use Rattle.std.proofs.lemmas.Bool.{and_parts}
+use Rattle.std.proofs.lemmas.Bool.{and_parts, both_ways}
 use Rattle.std.proofs.lemmas.Bool.Decides.{nat_tests}
 use Rattle.award.specs.declared.row.Row.{Row}
 use Rattle.award.specs.Award.{Bid}
@@ -40,13 +41,13 @@ module _ {Q : Type 0} (n : ℕ) where
       → cond b (Some 0) (option_map suc o) ≡ Some at → At (r ∷ rows) at
   at_first r rows zero true o is behind e = is
   at_first r rows (suc at) true o is behind e = let z : 0 ≡ suc at = cc in absurd (omega arith)
-  at_first r rows zero false None is behind e = let z : ◌≡◌ {A = ℕ} 0 1 = cc in absurd (omega arith)
-  at_first r rows (suc at) false None is behind e = let z : ◌≡◌ {A = ℕ} 0 1 = cc in absurd (omega arith)
+  at_first r rows zero false None is behind e = absurd (none-some 0 e)
+  at_first r rows (suc at) false None is behind e = absurd (none-some (suc at) e)
   at_first r rows zero false (Some k) is behind e = let z : suc k ≡ 0 = cc in absurd (omega arith)
   at_first r rows (suc at) false (Some k) is behind e = let z : suc k ≡ suc at = cc in (is, behind at (ap Some (omega arith)))
 
   pub found : (rows : List (Row Q)) (at : ℕ) → place_of n rows ≡ Some at → At rows at
-  found [] at e = let z : ◌≡◌ {A = ℕ} 0 1 = cc in absurd (omega arith)
+  found [] at e = absurd (none-some at e)
   found (r ∷ rows) at e = at_first r rows at (stands_as n r) (place_of n rows) refl (found rows) e
 
   pub at_below : (rows : List (Row Q)) (at : ℕ) → At rows at → at < length rows
@@ -59,7 +60,7 @@ module _ {Q : Type 0} (n : ℕ) where
 
   passes : (r : Row Q) (bids : List (Bid Q)) (s e : Bool) → r.standing ≡ s → eqb r.number n ≡ e → (s && e) ≡ false
       → bid_of n (cond s (bid_in r ∷ bids) bids) ≡ bid_of n bids
-  passes r bids true true s e is = let z : ◌≡◌ {A = ℕ} 0 1 = cc in absurd (omega arith)
+  passes r bids true true s e is = absurd (both_ways true is refl)
   passes r bids true false s e is = ap (λ b. cond b (Some (bid_in r)) (bid_of n bids)) e
   passes r bids false e s f is = refl
 
@@ -82,8 +83,8 @@ module _ {Q : Type 0} (n : ℕ) where
 
   none_first : (r : Row Q) (rows : List (Row Q)) (b : Bool) (o : Option ℕ) → stands_as n r ≡ b → (o ≡ None → bid_of n (standing rows) ≡ None)
       → cond b (Some 0) (option_map suc o) ≡ None → bid_of n (standing (r ∷ rows)) ≡ None
-  none_first r rows true o is behind e = let z : ◌≡◌ {A = ℕ} 0 1 = cc in absurd (omega arith)
-  none_first r rows false (Some k) is behind e = let z : ◌≡◌ {A = ℕ} 0 1 = cc in absurd (omega arith)
+  none_first r rows true o is behind e = absurd (none-some 0 (sym e))
+  none_first r rows false (Some k) is behind e = absurd (none-some (suc k) (sym e))
   none_first r rows false None is behind e = passes r (standing rows) r.standing (eqb r.number n) refl refl is ∙ behind refl
 
   -- no row has a place: no bid stands under the number

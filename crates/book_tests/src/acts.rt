@@ -50,10 +50,7 @@ fn enter<S: Sale>(rt: &impl Abort, book: &mut Book<'_, S>, house: u32, quote: i3
 fn award<S: Sale>(rt: &impl Abort, book: &mut Book<'_, S>, limit: i32) {
     let mut demands = [0; 4];
     let mut shares = [0; 4];
-    assert_eq!(rt;
-        put(book, Event::Close { second: 46_800 }),
-        Ok(0)
-    );
+    assert_eq!(rt; put(book, Event::Close { second: 46_800 }), Ok(0));
     assert_eq!(rt;
         book.take(Event::Limit { quote: limit }, &mut demands, &mut shares),
         Ok(0)

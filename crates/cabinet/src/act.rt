@@ -122,7 +122,8 @@ pub(crate) fn write_with<S: Sale>(
     write_act_with(refusals, head, rows.as_slice(), space)
 }
 
-// Writes what a book tells at the front of the space: its act, or that there is none. The count of the bytes is told, and the rest of the space is left; a space that is
+// Writes what a book tells at the front of the space: its act, or that there is none. The count of the bytes is told, and the rest of the space
+// is left; a space that is
 // too short is left as it was.
 pub fn write_book<S: Sale>(book: &Book<'_, S>, space: &mut [u8]) -> Result<usize, WriteFault>
     ensures { Writes (print_on book.now) space.old space.new result }

@@ -75,6 +75,7 @@ pub(crate) fn attend<S: Sale>(
     ensures book { Becomes book.old book.new (sheet_after book.old (length demands.old) (length shares.old) reader.old) }
 {
     let mut log = Log::new(NO_REFUSAL);
+    // (The turn has a name for the proof, which counts the turns that are left by it.)
     for turn in 0..MOST_MESSAGES {
         let answer = attend_one(reader, book, demands, shares);
         log.append(refusal_in(answer));

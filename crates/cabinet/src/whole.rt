@@ -44,7 +44,8 @@ fn front(input: &[u8]) -> &[u8]
     &input[..MOST_INPUT.min(input.len())]
 }
 
-// The print of a sale at rates. (One function for every kind could not be proved: nothing bounds the size of a type parameter, so that its rows need not fit the memory.)
+// The print of a sale at rates. (One function for every kind could not be proved: nothing bounds the size of a type parameter, so that its rows
+// need not fit the memory.)
 fn print_rates<R: SharingRule + Drop>(bytes: &[u8], space: &mut [u8]) -> Result<usize, WriteFault>
     ensures written { Writes (rate_print R.SharingRule.meaning R.SharingRule.CODE bytes.now) space.old space.new result }
     ensures enough { Suffices (length space.old) result }
@@ -116,7 +117,8 @@ fn at_the_first(place: usize, fault: LowerFault) -> Refusal
     fault.into()
 }
 
-// The whole print of an input at the front of the space: of its first 65,536 bytes a line for each refusal, then the act, or that there is none. The count of the bytes is told,
+// The whole print of an input at the front of the space: of its first 65,536 bytes a line for each refusal, then the act, or that there is none.
+// The count of the bytes is told,
 // and the rest of the space is left; a space that is too short is left as it was.
 pub fn print(input: &[u8], space: &mut [u8]) -> Result<usize, WriteFault>
     ensures written { Writes (print_of input.now) space.old space.new result }

@@ -1,5 +1,6 @@
 -- The limit takes a sheet on, and what the accepted calls come to; the sheet then tells the award.
 use Rattle.std.proofs.Common.{◌≡◌, ℕ, Bool, true, false, cond, List, length, ℤ, is_some, Some, None, sum_by, Option, sym, refl, ap, ◌∙◌, subst, arith}
+use Rattle.std.proofs.lemmas.Option.{none-some}
 use Rattle.std.proofs.lemmas.List.{length-take-le}
 use Rattle.std.proofs.lemmas.Bool.{both_ways, not-false}
 use Rattle.terms.specs.Quotes.{Lawful}
@@ -16,7 +17,7 @@ use Rattle.book.specs.Questions.{terms_of, placed_told, cut_told, lots_told, out
 use Rattle.book.specs.Sheets.{Sheet, in_use, phase_of, limit_of, cut_of, past_of}
 use Rattle.book.specs.Steps.{with_limit, state_by}
 use Rattle.book.specs.Told.{row_of, allotted_in, sheet_cut, row_outcome}
-use Rattle.runs.proofs.Grounds.{none_some, some_is, first_none}
+use Rattle.runs.proofs.Grounds.{some_is, first_none}
 use Rattle.runs.proofs.Coherent.{awaiting_undecided}
 use Rattle.runs.proofs.Moments.{one_each}
 use Rattle.runs.proofs.Rows.{RowsApart}
@@ -112,5 +113,5 @@ module _ {Q : Type 0} (number : Q → ℤ) (read : ℤ → Option Q) (no_worse :
           by_quote : (o : Option Q) (q : Q) → o ≡ Some q → is_decided (phase_of s.state) ≡ false
               → Follows number read no_worse share s (with_limit number read no_worse share s o)
               (record { phase = decided; standing = standing (in_use s); entered = s.used; arrivals = s.arrivals; last = s.last; limit = o })
-          by_quote None q e early = absurd (none_some None q refl e)
+          by_quote None q e early = absurd (none-some q e)
           by_quote (Some a) q e early = awarded a early

@@ -1,5 +1,6 @@
 -- Bids with numbers of their own: one removed, one put last, one looked up; and the lots of all numbers together.
 use Rattle.std.proofs.Common.{◌≡◌, ℕ, zero, suc, ◌+◌, ◌≤◌, Bool, true, false, cond, not, eqb, ◌≢◌, List, [], ◌∷◌, ◌++◌, length, is_some, Some, None, sum, sym, refl, ap, ◌∙◌, subst, arith}
+use Rattle.std.proofs.lemmas.Option.{none-some}
 use Rattle.std.specs.List.{AllByRecursion as All}
 use Rattle.std.proofs.ByRecursion.{All-append, all_kept_by}
 use Rattle.std.proofs.lemmas.List.Sums.{sum_by-cons}
@@ -8,7 +9,6 @@ use Rattle.award.specs.Award.{Bid, next, later}
 use Rattle.award.specs.Rivals.{Apart, lots_of}
 use Rattle.book.specs.Table.{bid_of, without}
 use Rattle.runs.specs.Law.{up_to}
-use Rattle.runs.proofs.Grounds.{none_some}
 
 module _ {Q : Type 0} where
   -- the bids left have other numbers than the one removed
@@ -50,7 +50,7 @@ module _ {Q : Type 0} where
 
   -- what holds of each bid holds of the one that stands under a number
   pub found_all : (P : Bid Q → Type 0) (n : ℕ) (b : Bid Q) (bids : List (Bid Q)) → All P bids → bid_of n bids ≡ Some b → P b × (b.number ≡ n)
-  found_all P n b [] h e = absurd (none_some None b refl e)
+  found_all P n b [] h e = absurd (none-some b e)
   found_all P n b (a ∷ bids) h e =
       cond_both (eqb a.number n) (Some a) (bid_of n bids) (λ o. o ≡ Some b → P b × (b.number ≡ n))
       (λ k i. let same : a ≡ b = cc in (subst P same h.0, subst (λ x. x.number ≡ n) same (eqb-true a.number n k)))
@@ -69,7 +69,7 @@ module _ {Q : Type 0} where
     where
       go : (v : Bool) → cond v (Some b) (bid_of n bids) ≡ None → (bid_of n bids ≡ None → lots_of bids (later xs) n ≡ 0)
           → cond v (next xs) (lots_of bids (later xs) n) ≡ 0
-      go true k ih = absurd (none_some (Some b) b k refl)
+      go true k ih = absurd (none-some b (sym k))
       go false k ih = ih k
 
 -- the lots of the numbers up to n, where two tell the same of each

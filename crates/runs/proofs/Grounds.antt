@@ -1,11 +1,9 @@
 -- What follows where a list of grounds has none that holds, and where its first one holds.
-use Rattle.std.proofs.Common.{◌≡◌, ℕ, true, false, List, [], ◌∷◌, is_some, Some, None, Option, refl, ap, ◌∙◌, arith}
+use Rattle.std.proofs.Common.{◌≡◌, true, false, List, [], ◌∷◌, is_some, Some, None, Option, sym, refl, ap, ◌∙◌}
+use Rattle.std.proofs.lemmas.Option.{none-some}
 use Rattle.std.specs.List.{AllByRecursion as All}
 use Rattle.std.proofs.lemmas.Bool.{both_ways, cond_both, cond-true}
 use Rattle.terms.specs.Grounds.{Ground, first}
-
-pub none_some : {A : Type 0} (o : Option A) (a : A) → o ≡ None → o ≡ Some a → ⊥
-none_some o a p q = let z : ◌≡◌ {A = ℕ} 0 1 = cc in omega arith
 
 pub some_is : {A : Type 0} (o : Option A) → is_some o ≡ true → (a : A) × (o ≡ Some a)
 some_is None e = absurd (both_ways false refl e)
@@ -16,7 +14,7 @@ module _ {F : Type 0} where
   first_none [] e = tt
   first_none (g ∷ gs) e =
       cond_both g.holds (Some g.fault) (first gs) (λ o. o ≡ None → (g.holds ≡ false) × All (λ g. g.holds ≡ false) gs)
-      (λ _ k. absurd (none_some (Some g.fault) g.fault k refl))
+      (λ _ k. absurd (none-some g.fault (sym k)))
       (λ h k. (h, first_none gs k))
       e
 

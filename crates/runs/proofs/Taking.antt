@@ -1,5 +1,6 @@
 -- Entries, changes, withdrawals and the close take a sheet on, and what the accepted calls come to.
 use Rattle.std.proofs.Common.{◌≡◌, ℕ, ◌+◌, ◌<◌, ◌≤◌, min, Bool, true, false, ◌≢◌, List, [], ◌∷◌, ◌++◌, length, ℤ, is_some, Some, None, Option, sym, refl, ap, ◌∙◌, arith}
+use Rattle.std.proofs.lemmas.Option.{none-some}
 use Rattle.std.specs.List.{AllByRecursion as All}
 use Rattle.std.proofs.ByRecursion.{All-push, All-weaker}
 use Rattle.std.proofs.lemmas.List.{length_push}
@@ -10,7 +11,7 @@ use Rattle.book.specs.declared.event.Event.TheVariants.{Entry, Change, Withdrawa
 use Rattle.book.specs.Table.{awaiting_limit, takes_bids, is_decided, bid_of, without, one_bid, grounds}
 use Rattle.book.specs.Sheets.{Sheet, in_use, phase_of, limit_of, past_of}
 use Rattle.book.specs.Steps.{new_row, without_row, withdrawn_in, with_entry, with_change, with_withdrawal, with_close}
-use Rattle.runs.proofs.Grounds.{none_some, some_is, first_none}
+use Rattle.runs.proofs.Grounds.{some_is, first_none}
 use Rattle.runs.proofs.Bids.{found_all}
 use Rattle.runs.proofs.Coherent.{open_undecided}
 use Rattle.runs.proofs.Rows.{standing_append, standing_numbers, standing_moved, standing_withdrawn, all_moved, all_withdrawn, apart_moved, apart_withdrawn, apart_push, length_withdrawn, length_moved, others_moved}
@@ -35,7 +36,7 @@ module _ {Q : Type 0} (number : Q → ℤ) (read : ℤ → Option Q) (no_worse :
             last = second;
             limit = limit_of read s.state;
           })
-      by_quote None q e early room = absurd (none_some None q refl e)
+      by_quote None q e early room = absurd (none-some q e)
       by_quote (Some a) q e early room =
           let r = new_row (s.used + 1) house a lots in
           let used = in_use s ++ r ∷ [] in
@@ -79,7 +80,7 @@ module _ {Q : Type 0} (number : Q → ℤ) (read : ℤ → Option Q) (no_worse :
             last = second;
             limit = limit_of read s.state;
           })
-      by_quote None q e early stands = absurd (none_some None q refl e)
+      by_quote None q e early stands = absurd (none-some q e)
       by_quote (Some a) q e early stands =
           let r = new_row n house a lots in
           let left = without_row n (in_use s) in

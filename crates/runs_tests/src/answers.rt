@@ -140,7 +140,9 @@ fn each_call_of_a_run_is_answered_by_the_calls_before_it(rt: HostRuntime) -> Res
     }
     run::<(Rate, ProRata)>(CheckedNotice::first(), &mut rows, &mut calls);
     for (exchange, (_, answer)) in calls.iter().zip(made.iter()) {
-        let answered = exchange.answer.map(|told| told.map_err(|fault| fault.number()));
+        let answered = exchange
+            .answer
+            .map(|told| told.map_err(|fault| fault.number()));
         assert_eq!(rt; answered, Some(*answer));
     }
     Ok(())

@@ -3,17 +3,23 @@ use std::alloc::{AllocError, AllocFailed};
 use std::fmt;
 use terms::fault::ShareFault;
 
-// Words are counted from 1, the rule's.
+// A word that was given, and its place, counted from 1, the rule's.
+#[derive(Drop)]
+pub struct Word {
+    pub place: usize,
+    pub text: String,
+}
+
 #[derive(Drop)]
 pub enum Complaint {
     NoRule,
     NoBalance,
-    // The word of this place is no rule.
-    NotARule(usize, String),
-    // The word of this place is no number.
-    NotANumber(usize, String),
-    // The rule refuses, because of the word of this place.
-    Refused(ShareFault, usize, String),
+    // The word is no rule.
+    NotARule(Word),
+    // The word is no number.
+    NotANumber(Word),
+    // The rule refuses, because of the word.
+    Refused(ShareFault, Word),
     NoMemory,
 }
 
@@ -29,6 +35,14 @@ impl<T: Drop> From<AllocFailed<T>> for Complaint {
     }
 }
 
+impl fmt::Display for Word {
+    fn fmt<W: fmt::Write>(&self, f: &mut fmt::Formatter<W>) -> fmt::Result {
+        let place = self.place;
+        let text = self.text.as_str();
+        write!(f, "word {place}, '{text}'")
+    }
+}
+
 impl fmt::Display for Complaint {
     fn fmt<W: fmt::Write>(&self, f: &mut fmt::Formatter<W>) -> fmt::Result {
         match self {
@@ -36,18 +50,15 @@ impl fmt::Display for Complaint {
                 "no rule is given; the rules are pro-rata and arrival",
             ),
             Complaint::NoBalance => f.write_str("no balance is given"),
-            Complaint::NotARule(place, word) => write!(
+            Complaint::NotARule(word) => write!(
                 f,
-                "word {place}, '{word}', is no rule; the rules are pro-rata and arrival"
+                "{word}, is no rule; the rules are pro-rata and arrival"
             ),
-            Complaint::NotANumber(place, word) => write!(
-                f,
-                "word {place}, '{word}', is no number of lots"
-            ),
-            Complaint::Refused(fault, place, word) => {
+            Complaint::NotANumber(word) => write!(f, "{word}, is no number of lots"),
+            Complaint::Refused(fault, word) => {
                 let number = fault.number();
-                let why = reason(*fault, *place);
-                write!(f, "refused with {number} at word {place}, '{word}': {why}")
+                let why = reason(*fault, word.place);
+                write!(f, "refused with {number} at {word}: {why}")
             }
             Complaint::NoMemory => f.write_str("out of memory"),
         }

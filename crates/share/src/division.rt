@@ -1,5 +1,5 @@
 // The division that the words ask for.
-use crate::complaint::Complaint;
+use crate::complaint::{Complaint, Word};
 use std::alloc::Global;
 use std::str::FromStr;
 
@@ -33,7 +33,7 @@ pub struct Division {
 }
 
 // What the word at a place says, or the complaint that it does not.
-fn said<T: FromStr, C: FnOnce(usize, String) -> Complaint>(
+fn said<T: FromStr, C: FnOnce(Word) -> Complaint>(
     heap: Global,
     place: usize,
     word: &str,
@@ -45,7 +45,10 @@ where
 {
     match word.parse::<T>() {
         Ok(value) => Ok(value),
-        Err(_) => Err(complaint(place, String::from_str(heap, word)?)),
+        Err(_) => Err(complaint(Word {
+            place,
+            text: String::from_str(heap, word)?,
+        })),
     }
 }
 

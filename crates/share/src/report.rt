@@ -4,9 +4,10 @@ ghost use Rattle.terms.specs.Grounds.{first, refused};
 ghost use Rattle.terms.specs.Sharing.{share_grounds, filled};
 ghost use Rattle.share.specs.Shares.{shares_by};
 
-use crate::complaint::Complaint;
+use crate::complaint::{Complaint, Word};
 use crate::division::{Division, Rule, read};
 use std::alloc::{AllocError, Global};
+use std::ops::Add;
 use terms::arrival::InArrivalOrder;
 use terms::fault::ShareFault;
 use terms::pro_rata::ProRata;
@@ -25,8 +26,8 @@ pub fn run(heap: Global, words: &[String]) -> Result<String, Complaint> {
             let word = words
                 .get(place.saturating_sub(1))
                 .map_or("", |word| word.as_str());
-            let word = String::from_str(heap, word)?;
-            Err(Complaint::Refused(fault, place, word))
+            let text = String::from_str(heap, word)?;
+            Err(Complaint::Refused(fault, Word { place, text }))
         }
     }
 }
@@ -68,8 +69,10 @@ struct Lots {
     share: u64,
 }
 
-impl Lots {
-    fn plus(self, other: Lots) -> Lots {
+impl Add for Lots {
+    type Output = Lots;
+
+    fn add(self, other: Lots) -> Lots {
         Lots {
             demand: self.demand.saturating_add(other.demand),
             first: self.first.saturating_add(other.first),
@@ -101,7 +104,7 @@ fn report(
         };
         let place = format!(in heap; "{}", i.saturating_add(1))?;
         text.push_str(line(heap, division.rule, place.as_str(), lots)?.as_str())?;
-        sums = sums.plus(lots);
+        sums = sums + lots;
     }
     text.push_str(line(heap, division.rule, "sum", sums)?.as_str())?;
     Ok(text)

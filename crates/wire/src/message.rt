@@ -11,7 +11,8 @@ pub(crate) const HEAD: usize = 4;
 // The version, which stands in the third byte.
 pub(crate) const VERSION: u8 = 1;
 
-// A series code stands in its case as eight single bytes, which is a rule of the project.
+// A series code stands in its case as eight single bytes, which is a rule of the project. (The two codes are bytes as they were sent, which may be
+// no kind's and no rule's, so that no enum stands for them.)
 #[derive(Clone, Copy)]
 pub enum Message {
     // Kind 0: what is offered, under which rules and when.

@@ -6,6 +6,7 @@ use Rattle.cabinet.proofs.Acting.{one_at_most}
 use Rattle.cabinet.proofs.Going.{refusals_more, book_more, refusals_stop, book_stop, refusals_end, book_end, answer_here, book_here, passed_here, place_here}
 use Rattle.cabinet.proofs.attend.attend.Goals as goal
 
+-- (The two turns name the same facts. Each goal has a type of its own, so a lemma for both would take every fact as a parameter.)
 pub loop-turn-preserved : goal.loop-turn-preserved
 loop-turn-preserved g c =
     let r = c.loop-turn.reader in

@@ -30,6 +30,8 @@ returns-then-self-at g c =
 pub returns : goal.returns
 returns g c =
     let b = c.args.self.now in
-    let place = sym c.in-Some.ensures in
-    (own_named c.args.number c.args.house b.used b.rows.now b.fit c.in-Some.at place c.index-self-at.result c.index-self-at.is
-    (ap (λ (r : Row g.row.S-Quote.Denot). r.house) c.index-self-at.is ∙ c.if-self-at.false), place)
+    let place = sym c.in-Some.ensures in (
+      own_named c.args.number c.args.house b.used b.rows.now b.fit c.in-Some.at place c.index-self-at.result c.index-self-at.is
+          (ap (λ (r : Row g.row.S-Quote.Denot). r.house) c.index-self-at.is ∙ c.if-self-at.false),
+      place,
+    )
