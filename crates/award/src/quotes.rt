@@ -1,4 +1,4 @@
-// Two quotes compared.
+// Two quotes compared. (By `no_worse`, also where they are the same, and not by a derived equality: the award's rules speak of that order alone.)
 ghost use Rattle.std.specs.Prelude.{◌≡◌};
 ghost use Rattle.award.specs.Award.{better, same};
 

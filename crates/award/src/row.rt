@@ -81,7 +81,7 @@ impl<Q: Copy> Row<Q> {
 }
 
 impl<Q: Quote> Row<Q> {
-    // Whether the bid stands at a cut-off.
+    // Whether the bid stands at a cut-off. (By `stands_where` the proof does not close: nothing names the test of a closure made in the call.)
     pub(crate) fn stands_at(self, cut: Q) -> bool
         ensures { result ≡ (self.standing && same Q.Quote.no_worse self.quote cut) }
     {

@@ -1,5 +1,6 @@
 -- The award of the rows in use, as it is asked for and as it is written.
-use Rattle.std.proofs.Common.{◌≡◌, ℕ, ◌≤◌, Bool, cond, not, List, length, take, ℤ, is_some, Some, None, Ok, Option, Result, sym, ap, ◌∙◌, arith}
+use Rattle.std.proofs.Common.{◌≡◌, ℕ, ◌≤◌, Bool, cond, not, List, length, take, ℤ, is_some, Some, None, Ok, Option, Result, sym, refl, ap, is_err, false, ◌∙◌}
+use Rattle.std.proofs.lemmas.Bool.{both_ways}
 use Rattle.std.proofs.lemmas.List.{length-take-le, take_at}
 use Rattle.terms.specs.Grounds.{first}
 use Rattle.terms.specs.Sharing.{laid}
@@ -32,7 +33,7 @@ module _ {Q : Type 0} (number : Q → ℤ) (read : ℤ → Option Q) (no_worse :
 
 -- a number that was read as a quote
 pub quoted_ok : {Q : Type 0} (o : Option Q) (q : Q) → ◌≡◌ {A = Result Q QuoteFault} (Ok q) (quoted o) → o ≡ Some q
-quoted_ok None q e = let z : ◌≡◌ {A = ℕ} 0 1 = cc in absurd (omega arith)
+quoted_ok None q e = absurd (both_ways false refl (ap is_err e))
 quoted_ok (Some r) q e = let z : q ≡ r = cc in ap Some (sym z)
 
 -- a sheet in another state

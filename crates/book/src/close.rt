@@ -10,9 +10,7 @@ use crate::book::Book;
 use crate::fault::BookFault;
 use crate::sale::Sale;
 use crate::state::State;
-
-// The last second of a day.
-const LAST_SECOND: u32 = 86_399;
+use terms::check::LAST_SECOND;
 
 impl<'a, S: Sale> Book<'a, S> {
     // Judges the close of an open book.

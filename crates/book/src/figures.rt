@@ -11,8 +11,8 @@ use crate::sale::Sale;
 use award::row::Row;
 use terms::notice::Notice;
 
-// The most rows that a book uses.
-const MOST_ROWS: usize = 4_096;
+// The most rows that a book uses, and so the most bids that are entered.
+pub const MOST_ROWS: usize = 4_096;
 
 // The most arrival places that a book gives.
 const MOST_PLACES: u32 = 1_000_000;

@@ -10,10 +10,10 @@ use crate::sale::Sale;
 use crate::state::State;
 
 impl<'a, S: Sale> Book<'a, S> {
-    // Takes an event, with the two work tables that a limit needs. An accepted entry answers the bid's number, all else that is accepted 0 (a
-    // rule of the project, in place of an `Option`).
-    // A refusal leaves the book, the rows and the tables as they were; only an accepted limit writes into the tables. (Two slices: in a struct
-    // behind a `&mut` every contract would also have to say that both are still the caller's own.)
+    // Takes an event, with the two work tables that a limit needs. An accepted entry answers the bid's number, all else that is accepted 0. A
+    // refusal leaves the book, the rows and the tables as they were; only an accepted limit writes into the tables. (The 0, in place of an
+    // `Option`, and the `match` on state and event in this place are rules of the project. Two slices: in a struct behind a `&mut` every contract
+    // would also have to say that both are still the caller's own.)
     pub fn take(
         &mut self,
         event: Event,

@@ -14,6 +14,7 @@ use crate::listed::Listed;
 use award::row::Row;
 use book::book::Book;
 use book::fault::BookFault;
+use book::figures::MOST_ROWS;
 use book::outcome::Outcome;
 use book::sale::Sale;
 use print::act::Act;
@@ -58,11 +59,8 @@ fn award_of<S: Sale>(book: &Book<'_, S>) -> Option<Cut>
     })
 }
 
-// The most bids of a book.
-const MOST_BIDS: usize = 4_096;
-
 // The rows of an act.
-type ActRows = Listed<ActRow, MOST_BIDS>;
+type ActRows = Listed<ActRow, MOST_ROWS>;
 
 // A row that is not told yet.
 const NO_ROW: ActRow = ActRow {
@@ -123,8 +121,7 @@ pub(crate) fn write_with<S: Sale>(
 }
 
 // Writes what a book tells at the front of the space: its act, or that there is none. The count of the bytes is told, and the rest of the space
-// is left; a space that is
-// too short is left as it was.
+// is left; a space that is too short is left as it was.
 pub fn write_book<S: Sale>(book: &Book<'_, S>, space: &mut [u8]) -> Result<usize, WriteFault>
     ensures { Writes (print_on book.now) space.old space.new result }
 {

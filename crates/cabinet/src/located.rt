@@ -1,5 +1,6 @@
 // A fault with the ordinal and the byte place of what it is about, on its way to the session's fault. (The session's fault is a type of its own and
-// not a `Located`: the `From` below would overlap with that of a type from itself.)
+// not a `Located`: the `From` below would overlap with that of a type from itself. Ordinal and place stay two numbers, here and where the reader is
+// asked for them: as a struct they would be taken apart again for each fault that shows both.)
 ghost use Rattle.std.specs.Prelude.{◌≡◌};
 ghost use Rattle.cabinet.specs.Faults.{located};
 

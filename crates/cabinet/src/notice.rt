@@ -75,8 +75,8 @@ fn check_message<Q: Quote, R: SharingRule>(
 }
 
 // Reads the notice at the reader's place, checks it for a kind of quote and a sharing rule, and fills the caller's place with it. At the exact end
-// there is none. A notice that is read and then refused is passed, and the caller's place stays. (It is
-// a rule of the project that the caller lends the place.)
+// there is none. A notice that is read and then refused is passed, and the caller's place stays. (That the caller lends the place is a rule of the
+// project.)
 pub fn open_notice<Q: Quote, R: SharingRule>(
     reader: &mut Reader<'_>,
     place: &mut CheckedNotice,

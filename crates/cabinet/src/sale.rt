@@ -5,7 +5,7 @@ ghost use Rattle.wire.specs.declared.call.Call.TheVariants.{Opening};
 ghost use Rattle.wire.specs.Reading.{reading};
 ghost use Rattle.wire.specs.Writes.{Writes};
 ghost use Rattle.print.specs.Lines.{no_act_line};
-ghost use Rattle.cabinet.specs.Prints.{without_act, blank_row, session_print, sale_print};
+ghost use Rattle.cabinet.specs.Prints.{without_act, session_print, sale_print};
 
 use crate::act::write_with;
 use crate::attend::attend;

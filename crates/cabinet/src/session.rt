@@ -88,10 +88,8 @@ fn put_message<S: Sale>(
 }
 
 // Reads the message at the reader's place and puts it to the book. An accepted entry answers its number, any other accepted event 0; at the
-// exact end there is
-// no answer. A message is passed once the reader accepts it, also when the book refuses it; a reader's refusal leaves the reader, the book, the
-// rows and the tables.
-// (Two slices and a 0, as the book takes and answers.)
+// exact end there is no answer. A message is passed once the reader accepts it, also when the book refuses it; a reader's refusal leaves the
+// reader, the book, the rows and the tables. (Two slices and a 0, as the book takes and answers.)
 pub fn attend_one<S: Sale>(
     reader: &mut Reader<'_>,
     book: &mut Book<'_, S>,

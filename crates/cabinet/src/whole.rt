@@ -118,8 +118,7 @@ fn at_the_first(place: usize, fault: LowerFault) -> Refusal
 }
 
 // The whole print of an input at the front of the space: of its first 65,536 bytes a line for each refusal, then the act, or that there is none.
-// The count of the bytes is told,
-// and the rest of the space is left; a space that is too short is left as it was.
+// The count of the bytes is told, and the rest of the space is left; a space that is too short is left as it was.
 pub fn print(input: &[u8], space: &mut [u8]) -> Result<usize, WriteFault>
     ensures written { Writes (print_of input.now) space.old space.new result }
     ensures enough { Suffices (length space.old) result }

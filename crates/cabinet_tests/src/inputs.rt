@@ -97,6 +97,7 @@ pub fn prints_bytes(
     expected: &[u8],
 ) -> Result<(), Fail> {
     let mut space = vec![in heap; 7u8; 4_096]?;
+    // (A match: behind `map_err` and `?` the check does not find that the count is within the space.)
     match print(bytes, space.as_mut_slice()) {
         Ok(count) => {
             assert!(rt; &space[0..count] == expected);

@@ -1,5 +1,5 @@
 -- The law at each moment of a run.
-use Rattle.std.proofs.Common.{◌≡◌, ℕ, suc, ◌≤◌, Bool, true, false, cond, not, ltb, List, [], ◌∷◌, ◌++◌, length, ℤ, is_some, Some, None, Ok, Err, Option, sym, refl, ap, ◌∙◌, subst, arith}
+use Rattle.std.proofs.Common.{◌≡◌, ℕ, suc, ◌≤◌, Bool, true, false, cond, not, ltb, List, [], ◌∷◌, ◌++◌, length, ℤ, is_some, Some, None, Ok, Err, is_err, Option, sym, refl, ap, ◌∙◌, subst, arith}
 use Rattle.std.proofs.lemmas.List.{length-map}
 use Rattle.std.proofs.lemmas.Bool.{and_parts, both_ways, cond_both, not_from_false, not-true}
 use Rattle.terms.specs.declared.notice.Notice.{Notice}
@@ -149,7 +149,7 @@ module _ {Q : Type 0} (read : ℤ → Option Q) (no_worse : Q → Q → Bool) (s
 
             by_known : (v : Bool) → cond v (Ok true_outcome) (Err NoSuchBid) ≡ Ok o → outcome_lots o ≡ given n
             by_known true k = let same : true_outcome ≡ o = cc in ap outcome_lots (sym same) ∙ outcome_lots_are n (bid_of n p.standing) refl
-            by_known false k = absurd (let z : ◌≡◌ {A = ℕ} 0 1 = cc in let f : ⊥ = omega arith in f)
+            by_known false k = absurd (both_ways true (ap is_err k) refl)
 
         pub decided : Decided no_worse share notice p limit
         decided =

@@ -30,7 +30,7 @@ pub enum Call {
 // The answer to a call that is not refused.
 #[derive(Clone, Copy, PartialEq, Eq, Debug)]
 pub enum Answer<Q> {
-    // An event was accepted, with this answer: an entry's number, else 0.
+    // An event was accepted, with this answer: an entry's number, else 0. (A rule of the project, in place of an `Option`.)
     Accepted(u32),
     // The answers to the questions.
     Count(usize),

@@ -10,36 +10,34 @@ use award::row::Row;
 use book::book::Book;
 use book::event::Event;
 use book::fault::BookFault;
+use book::figures::MOST_ROWS;
 use book::sale::Sale;
 use terms::checked::CheckedNotice;
-
-// The most bids that are entered, and so the most places that a work table needs.
-const MOST_BIDS: usize = 4_096;
 
 // The two work tables of a run.
 #[derive(Drop)]
 struct Tables {
-    demands: [u32; MOST_BIDS],
-    shares: [u32; MOST_BIDS],
+    demands: [u32; MOST_ROWS],
+    shares: [u32; MOST_ROWS],
 }
 
 // Puts an event to the book, with as many places of two work tables as are named. No more than 4,096 bids are entered, so that 4,096 places
-// serve as well as more; the others stay as they were.
+// serve as well as more; the others stay as they were. (Two tables, and not `Tables`: parts of two fields cannot be lent at once behind a reference.)
 fn put<S: Sale>(
     book: &mut Book<'_, S>,
     event: Event,
     one: usize,
     other: usize,
-    demands: &mut [u32; MOST_BIDS],
-    shares: &mut [u32; MOST_BIDS],
+    demands: &mut [u32; MOST_ROWS],
+    shares: &mut [u32; MOST_ROWS],
 ) -> Result<Answer<S::Quote>, BookFault>
     ensures answer { result ≡ told book.old (Putting event one other) }
     ensures book { Becomes book.old book.new (after_call book.old (Putting event one other)) }
     ensures demands { drop (min one 4_096) demands.new ≡ drop (min one 4_096) demands.old }
     ensures shares { drop (min other 4_096) shares.new ≡ drop (min other 4_096) shares.old }
 {
-    let demands = &mut demands[..one.min(MOST_BIDS)];
-    let shares = &mut shares[..other.min(MOST_BIDS)];
+    let demands = &mut demands[..one.min(MOST_ROWS)];
+    let shares = &mut shares[..other.min(MOST_ROWS)];
     Ok(Answer::Accepted(book.take(event, demands, shares)?))
 }
 
@@ -91,8 +89,8 @@ pub fn run<S: Sale>(
 {
     let mut book: Book<'_, S> = Book::open(notice, rows);
     let mut tables = Tables {
-        demands: [0; MOST_BIDS],
-        shares: [0; MOST_BIDS],
+        demands: [0; MOST_ROWS],
+        shares: [0; MOST_ROWS],
     };
     for exchange in calls.iter_mut() {
         fill(&mut book, exchange, &mut tables);

@@ -32,7 +32,7 @@ pub struct Division {
     pub demands: Vec<u32>,
 }
 
-// What the word at a place says, or the complaint that it does not.
+// What the word at a place says, or the complaint that it does not. (A match: `map_err` takes no `?`, and the copy of the word may find no memory.)
 fn said<T: FromStr, C: FnOnce(Word) -> Complaint>(
     heap: Global,
     place: usize,

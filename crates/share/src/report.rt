@@ -11,7 +11,7 @@ use std::ops::Add;
 use terms::arrival::InArrivalOrder;
 use terms::fault::ShareFault;
 use terms::pro_rata::ProRata;
-use terms::sharing::SharingRule;
+use terms::sharing::{MOST_DEMANDS, MOST_LOTS, SharingRule};
 
 // The report of the division that the words ask for.
 pub fn run(heap: Global, words: &[String]) -> Result<String, Complaint> {
@@ -54,9 +54,9 @@ fn blamed(fault: ShareFault, demands: &[u32]) -> usize {
     match fault {
         ShareFault::Lots => demands
             .iter()
-            .position(|d| !(1..=1_000_000_000).contains(d))
+            .position(|d| !(1..=MOST_LOTS).contains(d))
             .map_or(2, |i| i.saturating_add(3)),
-        ShareFault::ManyDemands => 4_096 + 3,
+        ShareFault::ManyDemands => MOST_DEMANDS + 3,
         ShareFault::ShortTable => 2,
     }
 }

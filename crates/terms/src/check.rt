@@ -67,6 +67,9 @@ fn series_fits(series: &[u8]) -> bool
     series.iter().all(|b| series_byte(*b))
 }
 
+// The last second of a day.
+pub const LAST_SECOND: u32 = 86_399;
+
 // Whether the lots, the number of bids and the seconds keep the rules.
 fn numbers_fit(notice: &Notice) -> bool
     ensures { result ≡ numbers_fit notice.now }
@@ -76,5 +79,5 @@ fn numbers_fit(notice: &Notice) -> bool
         && (1..=notice.offer).contains(&notice.least_placement)
         && (1..=2).contains(&notice.least_number)
         && notice.opening < notice.closing
-        && notice.closing <= 86_399
+        && notice.closing <= LAST_SECOND
 }

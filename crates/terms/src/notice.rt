@@ -19,8 +19,7 @@ pub struct Notice {
 }
 
 // A notice as it is sent: with the codes of a kind of quote and of a sharing rule. (They are the bytes that were sent, which may be no kind's
-// and no rule's, and are checked against the codes of the type parameters; so no enum stands for
-// them.)
+// and no rule's, and are checked against the codes of the type parameters; so no enum stands for them.)
 #[derive(Clone, Copy)]
 pub struct NoticeFields {
     pub quote_code: u8,

@@ -26,10 +26,10 @@ pub trait SharingRule {
 }
 
 // The most lots that a demand or a balance may have.
-pub(crate) const MOST_LOTS: u32 = 1_000_000_000;
+pub const MOST_LOTS: u32 = 1_000_000_000;
 
 // The most demands.
-const MOST_DEMANDS: usize = 4_096;
+pub const MOST_DEMANDS: usize = 4_096;
 
 // Whether a demand is in range.
 fn demand_fits(demand: u32) -> bool
