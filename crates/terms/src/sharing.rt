@@ -1,5 +1,6 @@
 // Sharing rules: how a balance is divided among demands, which are given in arrival order.
-ghost use Rattle.std.specs.Prelude.{◌≡◌, ℕ, ◌-◌, true, List, length, sum};
+ghost use Rattle.std.specs.Prelude.{◌≡◌, ℕ, ◌-◌, true, false, List, length, sum, IfOk, IfErr};
+ghost use Rattle.terms.specs.declared.fault.ShareFault.TheVariants.{Lots as Unfit};
 ghost use Rattle.terms.specs.Grounds.{first, refused};
 ghost use Rattle.terms.specs.Sharing.{demand_fits, demands_fit, lots_fit, few, share_grounds, filled, Fair};
 
@@ -38,27 +39,26 @@ fn demand_fits(demand: u32) -> bool
     (1..=MOST_LOTS).contains(&demand)
 }
 
-// Whether each demand is.
-fn demands_fit(demands: &[u32]) -> bool
-    ensures { result ≡ demands_fit demands.now }
+// What the demands do not cover of a balance, or that one of them is out of range, in one pass. It is counted down, so that no sum can wrap.
+fn left_bare(balance: u32, demands: &[u32]) -> Result<u32, ShareFault>
+    ensures fits { IfOk result (λ bare. (demands_fit demands.now ≡ true) × (bare ≡ balance - sum demands.now)) }
+    ensures unfit { IfErr result (λ f. (demands_fit demands.now ≡ false) × (f ≡ Unfit)) }
 {
-    demands.iter().all(|d| demand_fits(*d))
-}
-
-// What the demands do not cover of a balance. It is counted down, so that no sum can wrap.
-fn left_bare(balance: u32, demands: &[u32]) -> u32
-    ensures { result ≡ balance - sum demands.now }
-{
-    demands
-        .iter()
-        .fold(balance, |bare, d| bare.saturating_sub(*d))
+    let mut bare = balance;
+    for d in demands {
+        if !demand_fits(*d) {
+            return Err(ShareFault::Lots);
+        }
+        bare = bare.saturating_sub(*d);
+    }
+    Ok(bare)
 }
 
 // Judges the demands, the balance and the count of places.
 pub(crate) fn check(balance: u32, demands: &[u32], places: usize) -> Result<(), ShareFault>
     ensures { refused result ≡ first (share_grounds demands.now balance places) }
 {
-    if !demands_fit(demands) || left_bare(balance, demands) > 0 || balance > MOST_LOTS {
+    if left_bare(balance, demands)? > 0 || balance > MOST_LOTS {
         return Err(ShareFault::Lots);
     }
     if demands.len() > places {
