@@ -6,3 +6,4 @@ pub mod Bettered
 pub mod Handing
 pub mod Ready
 pub mod Allotting
+pub mod Telling
