@@ -27,11 +27,16 @@ fn sum_allotted<Q: Copy>(rows: &[Row<Q>]) -> u64
     rows.iter().map(|row| row.allotted as u64).sum()
 }
 
-// The row of a number, withdrawn or not.
+// The row of a number, withdrawn or not. (A loop: `copied` and `find` copy each row that they pass.)
 fn row_of<Q: Copy>(rows: &[Row<Q>], number: u32) -> Option<Row<Q>>
     ensures { result ≡ row_of number rows.now }
 {
-    rows.iter().copied().find(|row| row.number == number)
+    for row in rows {
+        if row.number == number {
+            return Some(*row);
+        }
+    }
+    None
 }
 
 // Whether a quote is past a limit.
@@ -82,7 +87,7 @@ impl<'a, S: Sale> Book<'a, S> {
         sum_allotted(self.in_use())
     }
 
-    // The row of a number, withdrawn or not.
+    // The row of a number, withdrawn or not. (A loop: `copied` and `find` copy each row that they pass.)
     pub fn row(&self, number: u32) -> Option<Row<S::Quote>>
         ensures { result ≡ row_of number (in_use (view self.now)) }
     {
