@@ -60,7 +60,7 @@ fn award_of<S: Sale>(book: &Book<'_, S>) -> Option<Cut>
 }
 
 // The rows of an act.
-type ActRows = Listed<ActRow, MOST_ROWS>;
+type ActRows<'a> = Listed<'a, ActRow, MOST_ROWS>;
 
 // A row that is not told yet.
 const NO_ROW: ActRow = ActRow {
@@ -72,12 +72,12 @@ const NO_ROW: ActRow = ActRow {
     outcome: Outcome::Out,
 };
 
-// The act's rows by number.
-fn act_rows<S: Sale>(book: &Book<'_, S>) -> ActRows
+// The act's rows by number, in these places.
+fn act_rows<'a, S: Sale>(book: &Book<'_, S>, places: &'a mut [ActRow; MOST_ROWS]) -> ActRows<'a>
     ensures rows { result ≡ rows_on book.now }
     ensures few { length result ≤ (view book.now).used }
 {
-    let mut rows = Listed::new(NO_ROW);
+    let mut rows = Listed::over(places);
     for number in 1..=book.bids_entered() {
         rows.append(act_row(book, number));
     }
@@ -109,7 +109,8 @@ pub(crate) fn write_with<S: Sale>(
     if !book.is_decided() {
         return write_print(refusals, None, space);
     }
-    let rows = act_rows(book);
+    let mut places = [NO_ROW; MOST_ROWS];
+    let rows = act_rows(book, &mut places);
     let notice = book.notice();
     let series = notice.series;
     let head = Head {

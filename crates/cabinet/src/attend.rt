@@ -14,17 +14,17 @@ use print::refusal::Refusal;
 use wire::reader::Reader;
 
 // The most messages that 65,536 bytes hold: the shortest has eight.
-const MOST_MESSAGES: usize = 8_192;
+pub(crate) const MOST_MESSAGES: usize = 8_192;
 
 // A refusal that is not told yet.
-const NO_REFUSAL: Refusal = Refusal {
+pub(crate) const NO_REFUSAL: Refusal = Refusal {
     ordinal: 0,
     number: 0,
     place: 0,
 };
 
 // The refusals of a session.
-pub(crate) type Log = Listed<Refusal, MOST_MESSAGES>;
+pub(crate) type Log<'a> = Listed<'a, Refusal, MOST_MESSAGES>;
 
 // A refusal as it is printed.
 impl From<SessionFault> for Refusal {
@@ -63,18 +63,20 @@ fn goes_on(answer: Result<Option<u32>, SessionFault>) -> bool
     }
 }
 
-// Reads the messages that are left, at most 8,192, and puts each to the book; a refusal by the reader stops the reading. Gives the refusals.
-pub(crate) fn attend<S: Sale>(
+// Reads the messages that are left, at most 8,192, and puts each to the book; a refusal by the reader stops the reading. Gives the refusals, in
+// these places.
+pub(crate) fn attend<'a, S: Sale>(
     reader: &mut Reader<'_>,
     book: &mut Book<'_, S>,
     demands: &mut [u32],
     shares: &mut [u32],
-) -> Log
+    places: &'a mut [Refusal; MOST_MESSAGES],
+) -> Log<'a>
     ensures few { length result ≤ 8_192 }
     ensures refusals { result ≡ refusals_on book.old (length demands.old) (length shares.old) reader.old }
     ensures book { Becomes book.old book.new (sheet_after book.old (length demands.old) (length shares.old) reader.old) }
 {
-    let mut log = Log::new(NO_REFUSAL);
+    let mut log = Listed::over(places);
     // (The turn has a name for the proof, which counts the turns that are left by it.)
     for turn in 0..MOST_MESSAGES {
         let answer = attend_one(reader, book, demands, shares);

@@ -1,33 +1,32 @@
-// Lists in place.
+// Lists in places that are lent.
 ghost use Rattle.std.specs.Prelude.{◌≡◌, ◌<◌, ◌≤◌, List, [], ◌++◌, length, take};
 ghost use Rattle.cabinet.specs.Tables.{as_list};
 
 use std::marker::Model;
 
-// A list of at most N items, which takes no memory but its own. (The kit's `arrayvec` has such a list; the project takes no crate beside std.)
+// A list of at most N items, in places that its owner lends. (With places of its own, as a list of the kit's `arrayvec`, it would be copied with all
+// of them where it is made and where it is given back; and the project takes no crate beside std.)
 #[derive(Drop)]
-pub(crate) struct Listed<T: Copy, const N: usize> {
-    places: [T; N],
+pub(crate) struct Listed<'a, T: Copy, const N: usize> {
+    // at least N (a slice: the checker does not know the length of an array behind a field's reference)
+    places: &'a mut [T],
     used: usize,
 }
 
-impl<T: Copy, const N: usize> Model for Listed<T, N> {
+impl<'a, T: Copy, const N: usize> Model for Listed<'a, T, N> {
     ghost Value = { List T };
 
-    ghost view = { λ l. take l.used l.places };
+    ghost view = { λ l. take l.used l.places.now };
 
-    ghost invariant = { λ l. l.used ≤ N };
+    ghost invariant = { λ l. (l.used ≤ N) × (N ≤ length l.places.now) };
 }
 
-impl<T: Copy, const N: usize> Listed<T, N> {
-    // A list without items; each place holds this until it is used.
-    pub(crate) fn new(blank: T) -> Listed<T, N>
+impl<'a, T: Copy, const N: usize> Listed<'a, T, N> {
+    // A list without items, over these places; what they hold does not count.
+    pub(crate) fn over(places: &'a mut [T; N]) -> Listed<'a, T, N>
         ensures { result ≡ [] }
     {
-        Listed {
-            places: [blank; N],
-            used: 0,
-        }
+        Listed { places, used: 0 }
     }
 
     // Puts an item, if there is one, behind the others.

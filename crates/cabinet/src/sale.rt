@@ -8,7 +8,7 @@ ghost use Rattle.print.specs.Lines.{no_act_line};
 ghost use Rattle.cabinet.specs.Prints.{without_act, session_print, sale_print};
 
 use crate::act::write_with;
-use crate::attend::attend;
+use crate::attend::{MOST_MESSAGES, NO_REFUSAL, attend};
 use crate::fault::SessionFault;
 use crate::notice::open_notice;
 use award::row::Row;
@@ -45,7 +45,8 @@ fn print_session<Q: Quote, R: SharingRule + Drop>(
     let mut demands = [0; ROWS];
     let mut shares = [0; ROWS];
     let mut book: Book<'_, (Q, R)> = Book::open(notice, rows);
-    let log = attend(reader, &mut book, &mut demands, &mut shares);
+    let mut places = [NO_REFUSAL; MOST_MESSAGES];
+    let log = attend(reader, &mut book, &mut demands, &mut shares, &mut places);
     write_with(log.as_slice(), &book, space)
 }
 

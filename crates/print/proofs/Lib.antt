@@ -1,3 +1,4 @@
 pub mod Digits
 pub mod Lengths
+pub mod Places
 pub mod Sinks

@@ -7,7 +7,7 @@ ghost use Rattle.print.specs.Texts.{texts};
 ghost use Rattle.wire.specs.Writes.{Writes};
 
 use crate::cursor::Cursor;
-use crate::number::{print_number, print_signed};
+use crate::number::print_signed;
 use crate::piece::Piece;
 use crate::sink::{Room, Sink};
 use wire::fault::WriteFault;
@@ -45,7 +45,7 @@ impl<'a> Printed for Piece<'a> {
 
     fn print<S: Sink>(&self, sink: &mut S) -> Result<(), WriteFault> {
         match self {
-            Piece::Number(n) => print_number(*n, sink),
+            Piece::Number(n) => sink.take_number(*n),
             Piece::Signed(z) => print_signed(*z, sink),
             Piece::Text(text) => sink.take(text),
         }

@@ -1,0 +1,4 @@
+use Rattle.print.proofs.number.+number_width.Given as goal
+
+abbrev pub decreases-number_width : goal.decreases-number_width
+decreases-number_width l = l.n
