@@ -59,23 +59,23 @@ impl<Q: Copy> Row<Q> {
         }
     }
 
-    // Whether the bid stands, at such a quote. (The quote is tested first, and in `lots_where` the lots are read first: so a pass over many rows
-    // takes no branch at each of them, which would cost more than all else.)
+    // Whether the bid stands, at such a quote.
     pub(crate) fn stands_where<T: Fn(Q) -> bool>(self, such: T) -> bool
         requires { T.IsAlwaysCallable such }
         ensures { (test : Q → Bool) → IsTest (T.post such) test → result ≡ (self.standing && test self.quote) }
     {
-        let is_such = such(self.quote);
-        self.standing && is_such
+        self.standing && such(self.quote)
     }
 
-    // The lots of a bid that stands at such a quote.
+    // The lots of a bid that stands at such a quote. (Lots and quote are read before the flag is tested: so a sum over many rows takes no branch at
+    // each of them, which would cost more than all else.)
     pub(crate) fn lots_where<T: Fn(Q) -> bool>(self, such: T) -> u32
         requires { T.IsAlwaysCallable such }
         ensures { (test : Q → Bool) → IsTest (T.post such) test → result ≡ counted test self }
     {
         let lots = self.lots;
-        if self.stands_where(such) { lots } else { 0 }
+        let is_such = such(self.quote);
+        if self.standing && is_such { lots } else { 0 }
     }
 }
 
