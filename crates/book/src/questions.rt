@@ -87,7 +87,7 @@ impl<'a, S: Sale> Book<'a, S> {
         sum_allotted(self.in_use())
     }
 
-    // The row of a number, withdrawn or not. (A loop: `copied` and `find` copy each row that they pass.)
+    // The row of a number, withdrawn or not.
     pub fn row(&self, number: u32) -> Option<Row<S::Quote>>
         ensures { result ≡ row_of number (in_use (view self.now)) }
     {
